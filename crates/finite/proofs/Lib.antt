@@ -1,0 +1,5 @@
+pub mod Sums
+pub mod Greatest
+pub mod Some
+pub mod Lists
+pub mod Walks

@@ -1,0 +1,3 @@
+mod Digits
+mod Words
+pub mod Sets
