@@ -1,0 +1,4 @@
+pub mod Rank
+pub mod Times
+pub mod Steps
+pub mod Ends
