@@ -1,5 +1,5 @@
 -- The order of points is that of their numbers.
-use Rattle.std.proofs.Common.{◌<◌, ◌⊎◌, inl, inr, ⊎_elim, arith}
+use Rattle.std.proofs.Common.{◌<◌, inl, inr, ⊎_elim, arith}
 use Rattle.std.proofs.lemmas.Bool.{cases_lt, le-leb, leb-true}
 use Rattle.costs.specs.Order.{Total, Transitive}
 use Rattle.costs.specs.Points.{amount, points_not_above}

@@ -1,5 +1,7 @@
 // Kinds of cost: what a late bar costs, and how two costs compare. Two kinds are here, points and graded costs; the code above is written
 // over any kind. Nothing here refuses but the making of a value that is out of range.
+#![tactic(auto)]
+
 mod choice;
 mod graded;
 mod kind;

@@ -1,5 +1,5 @@
 -- Curves never fall: an end that is later is late by at least as much.
-use Rattle.std.proofs.Common.{◌≡◌, ℕ, ◌-◌, ◌*◌, ◌≤◌, mul-le-mul, mul-le-mul_left, arith}
+use Rattle.std.proofs.Common.{◌≡◌, ℕ, ◌*◌, ◌≤◌, mul-le-mul, mul-le-mul_left, arith}
 use native.Mathlib.Nat.{min-eq_left}
 use Rattle.std.proofs.lemmas.Bool.{le-leb}
 use Rattle.costs.specs.Limits.{highest}

@@ -1,5 +1,7 @@
 // Curves: what it costs to end a move at a tick. The trait says what a curve promises, and three curves stand on no other. Nothing here
 // refuses but the making of a curve whose numbers are out of range.
+#![tactic(auto)]
+
 mod curve;
 mod factor;
 mod graded_late;

@@ -1,4 +1,6 @@
 // The sheet: which moves there are, and which has to wait for which.
+#![tactic(auto)]
+
 mod call;
 mod figures;
 mod refusal;

@@ -15,8 +15,8 @@ pub loop-m-preserved : goal.loop-m-preserved
 loop-m-preserved c =
     let taken = c.in-Some.ensures.steps in
     held_goes_on (meaning c.args.sheet.now).tie (holds (left_of c.into-iter-m-iterator.result)) (holds (left_of c.loop-m.m-iterator)) (holds c.loop-m.held)
-    (holds c.waiting-for.result) (holds c.union-held.result) (holds (left_of c.next.new.self)) (number c.in-Some.m)
-    c.loop-m.invariant taken.held c.waiting-for.ensures c.union-held.ensures.held taken.rest
+    (holds c.waiting_for.result) (holds c.union-held.result) (holds (left_of c.next.new.self)) (number c.in-Some.m)
+    c.loop-m.invariant taken.held c.waiting_for.ensures c.union-held.ensures.held taken.rest
 
 pub returns : goal.returns
 returns c =

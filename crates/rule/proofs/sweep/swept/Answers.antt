@@ -17,6 +17,6 @@ loop-m-smaller c =
 
 pub returns : goal.returns
 returns c = record {
-  times = λ j. c.new.ensures j ∙ c.loop-m.invariant.known j (c.in-default.ensures j);
+  times = λ j. c.new.ensures j ∙ c.loop-m.invariant.known j (c.in_default.ensures j);
   law = ready_law (meaning c.args.sheet.now) (sheet_sound c.args.sheet.now);
 }

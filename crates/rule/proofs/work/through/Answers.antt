@@ -30,7 +30,7 @@ loop-j-preserved c =
         arith,
         c.loop-j.invariant.0,
         c.max-latest.ensures,
-        c.through-from.ensures,
+        c.through_from.ensures,
         cond-true (on (meaning c.args.sheet.now) (number c.in-Some.j)) (through_from (meaning c.args.sheet.now) (number c.in-Some.j)) 0 here,
         greatest_passes room (through_at (meaning c.args.sheet.now)) (holds (left_of c.loop-j.j-iterator)) (number c.in-Some.j) (holds (left_of c.next.new.self))
             c.in-Some.j.below taken.held taken.rest,

@@ -18,13 +18,13 @@ use Rattle.rule.proofs.work.work_from.Goals as goal
 abbrev adds : Ledger → ℕ → ℕ → ℕ
 adds L t k = cond (leb t (ready L k)) (length_of L k) 0
 
-next : (c : goal.After-length-from-work) → sum room (passed (holds (left_of c.next.new.self)) (adds (meaning c.args.sheet.now) c.args.start)) ≡ c.loop-k.work + c.length-from-work.result
+next : (c : goal.After-length_from-work) → sum room (passed (holds (left_of c.next.new.self)) (adds (meaning c.args.sheet.now) c.args.start)) ≡ c.loop-k.work + c.length_from-work.result
 next c =
     let taken = c.in-Some.ensures.steps in
     omega (
       arith,
       c.loop-k.invariant,
-      c.length-from-work.ensures,
+      c.length_from-work.ensures,
       sum_passes room (adds (meaning c.args.sheet.now) c.args.start) (holds (left_of c.loop-k.k-iterator)) (number c.in-Some.k) (holds (left_of c.next.new.self))
           c.in-Some.k.below taken.held taken.rest,
     )
@@ -35,8 +35,8 @@ loop-k-init c =
     sym (sum_begins room (adds (meaning c.args.sheet.now) c.args.start) (holds (left_of c.into-iter-k-iterator.result))
     (λ k off. work_off (meaning c.args.sheet.now) (sheet_sound c.args.sheet.now) c.args.start k (sym (ap (λ (s : MoveSet). holds s k) start ∙ c.moves.ensures k) ∙ off)))
 
-pub overflow-add-work : goal.overflow-add-work
-overflow-add-work c = omega (arith, next c, work_short (meaning c.args.sheet.now) (sheet_sound c.args.sheet.now) c.args.start (holds (left_of c.next.new.self)))
+pub overflow_add-work : goal.overflow_add-work
+overflow_add-work c = omega (arith, next c, work_short (meaning c.args.sheet.now) (sheet_sound c.args.sheet.now) c.args.start (holds (left_of c.next.new.self)))
 
 pub loop-k-preserved : goal.loop-k-preserved
 loop-k-preserved c = sym (next c)

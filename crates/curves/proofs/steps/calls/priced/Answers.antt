@@ -9,7 +9,7 @@ use Rattle.curves.proofs.Rows.{points_law}
 use Rattle.curves.proofs.steps.calls.priced.Goals as goal
 
 found : (c : goal.After-capped) → c.capped.result ≡ steps_at c.args.steps.now c.args.t
-found c = c.capped.ensures ∙ ap points_of (simp sub-zero at c.points-at.ensures)
+found c = c.capped.ensures ∙ ap points_of (simp sub-zero at c.points_at.ensures)
 
 pub returns : goal.returns
 returns c =

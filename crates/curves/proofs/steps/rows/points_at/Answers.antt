@@ -6,7 +6,7 @@ use Rattle.curves.proofs.steps.rows.points_at.Goals as goal
 
 pub loop-row-preserved : goal.loop-row-preserved
 loop-row-preserved c =
-    ap (λ p. points_from p (drop (c.loop-row.row-index + 1) c.args.rows.now) c.args.t) c.points-after-points.ensures
+    ap (λ p. points_from p (drop (c.loop-row.row-index + 1) c.args.rows.now) c.args.t) c.points_after-points.ensures
     ∙ sym (points_more c.loop-row.points c.args.rows.now c.args.t c.loop-row.row-index c.loop-row-test.true) ∙ c.loop-row.invariant
 
 pub returns : goal.returns

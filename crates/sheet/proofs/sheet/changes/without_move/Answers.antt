@@ -9,10 +9,10 @@ use Rattle.sheet.proofs.sheet.changes.without_move.Goals as goal
 pub assembled-requires : goal.assembled-requires
 assembled-requires c =
     subst (λ (L : Ledger). Sound L)
-    (sym (struck_parts c.args.sheet.now.present c.without.result c.args.sheet.now.moves c.args.sheet.now.ties (number c.args.m) c.without-ties.result c.without.ensures.held c.without-ties.ensures))
+    (sym (struck_parts c.args.sheet.now.present c.without.result c.args.sheet.now.moves c.args.sheet.now.ties (number c.args.m) c.without_ties.result c.without.ensures.held c.without_ties.ensures))
     c.requires
 
 pub returns : goal.returns
 returns c =
     c.assembled.ensures
-    ∙ struck_parts c.args.sheet.now.present c.without.result c.args.sheet.now.moves c.args.sheet.now.ties (number c.args.m) c.without-ties.result c.without.ensures.held c.without-ties.ensures
+    ∙ struck_parts c.args.sheet.now.present c.without.result c.args.sheet.now.moves c.args.sheet.now.ties (number c.args.m) c.without_ties.result c.without.ensures.held c.without_ties.ensures

@@ -10,8 +10,8 @@ loop-i-init c = (omega arith, rows_begin (number c.args.m) c.args.ties)
 pub loop-i-preserved : goal.loop-i-preserved
 loop-i-preserved c = (
   simp length-set (omega arith),
-  rows_again (number c.args.m) c.args.ties c.loop-i.rows c.loop-i.i c.row-without.result
-      (omega arith) c.loop-i.invariant.1 c.row-without.ensures,
+  rows_again (number c.args.m) c.args.ties c.loop-i.rows c.loop-i.i c.row_without.result
+      (omega arith) c.loop-i.invariant.1 c.row_without.ensures,
 )
 
 pub returns : goal.returns

@@ -32,4 +32,4 @@ pub returns : goal.returns
 returns c =
     search_ends (meaning c.args.sheet.now).tie (holds c.row-found.result) (holds c.loop-m.found) (holds c.loop-m.unseen)
     c.loop-m.invariant (number c.args.from) (tie_within (meaning c.args.sheet.now) (sheet_sound c.args.sheet.now)) c.row-found.ensures
-    (λ k. sym (c.intersection.ensures.held k) ∙ c.in-default.ensures.held k)
+    (λ k. sym (c.intersection.ensures.held k) ∙ c.in_default.ensures.held k)

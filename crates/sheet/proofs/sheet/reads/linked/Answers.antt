@@ -3,8 +3,8 @@ use Rattle.std.proofs.Common.{sym, inl, inr}
 use Rattle.sheet.proofs.Sheets.{tie_beyond}
 use Rattle.sheet.proofs.sheet.reads.linked.Goals as goal
 
-pub returns-in-default : goal.returns-in-default
-returns-in-default c = sym (tie_beyond c.args.sheet.now c.args.before c.args.after (inl c.in-default.ensures))
+pub returns-in_default : goal.returns-in_default
+returns-in_default c = sym (tie_beyond c.args.sheet.now c.args.before c.args.after (inl c.in_default.ensures))
 
 pub returns-in-None : goal.returns-in-None
 returns-in-None c = sym (tie_beyond c.args.sheet.now c.args.before c.args.after (inr c.in-None.ensures))

@@ -13,7 +13,7 @@ loop-n-init c = refl
 
 pub loop-n-preserved : goal.loop-n-preserved
 loop-n-preserved c =
-    omega (arith, greatest_next c.loop-n.n (release_of (meaning c.args.sheet.now)), c.max-latest.ensures, ap (λ (m : Move). m.release) c.figures-at.ensures)
+    omega (arith, greatest_next c.loop-n.n (release_of (meaning c.args.sheet.now)), c.max-latest.ensures, ap (λ (m : Move). m.release) c.figures_at.ensures)
 
 pub returns : goal.returns
 returns c =

@@ -12,20 +12,20 @@ pub loop-n-init : goal.loop-n-init
 unfolding sum
 loop-n-init c = refl
 
-pub overflow-add-total : goal.overflow-add-total
-overflow-add-total c =
+pub overflow_add-total : goal.overflow_add-total
+overflow_add-total c =
     let f = length_of (meaning c.args.sheet.now) in
     omega (
       arith,
       sum_next c.loop-n.n f,
       sum_upto (c.loop-n.n + 1) room f (omega arith),
       c.args.sheet.now.short,
-      ap (λ (m : Move). m.length) c.figures-at-total.ensures,
+      ap (λ (m : Move). m.length) c.figures_at-total.ensures,
     )
 
 pub loop-n-preserved : goal.loop-n-preserved
 loop-n-preserved c =
-    omega (arith, sum_next c.loop-n.n (length_of (meaning c.args.sheet.now)), ap (λ (m : Move). m.length) c.figures-at-total.ensures)
+    omega (arith, sum_next c.loop-n.n (length_of (meaning c.args.sheet.now)), ap (λ (m : Move). m.length) c.figures_at-total.ensures)
 
 pub returns : goal.returns
 returns c = let e : c.loop-n.n ≡ 64 = omega arith in c.loop-n.invariant ∙ ap (λ n. sum n (length_of (meaning c.args.sheet.now))) e

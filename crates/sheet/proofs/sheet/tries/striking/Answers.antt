@@ -5,5 +5,5 @@ use Rattle.sheet.proofs.Keeps.{struck_sound}
 use Rattle.sheet.proofs.Sheets.{sheet_sound}
 use Rattle.sheet.proofs.sheet.tries.striking.Goals as goal
 
-pub without-move-requires : goal.without-move-requires
-without-move-requires c = struck_sound (number c.in-Some.m) (meaning c.args.sheet.now) (sheet_sound c.args.sheet.now)
+pub without_move-requires : goal.without_move-requires
+without_move-requires c = struck_sound (number c.in-Some.m) (meaning c.args.sheet.now) (sheet_sound c.args.sheet.now)
