@@ -1,5 +1,5 @@
 -- A layer over a curve that never falls never falls: it reads the curve in the same order of ticks and keeps the order of the costs.
-use Rattle.std.proofs.Common.{◌≡◌, ℕ, ◌+◌, ◌*◌, min, Bool, true, false, sym, ◌∙◌, ⊎_elim, mul-le-mul_left, arith}
+use Rattle.std.proofs.Common.{◌≡◌, ℕ, ◌+◌, ◌*◌, min, Bool, true, sym, ◌∙◌, ⊎_elim, mul-le-mul_left, arith}
 use Rattle.std.proofs.lemmas.Bool.{cond_both, le-leb, leb-true, true≢false}
 use Rattle.costs.specs.Order.{Total, Transitive, lesser}
 use Rattle.costs.specs.Points.{amount, points_not_above}

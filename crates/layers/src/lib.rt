@@ -1,5 +1,7 @@
 // Layers: curves that stand over other curves and change what they answer. Each holds the curve below by value and is again a curve. The
 // numbers of a layer are checked when they are made, so making a layer refuses nothing.
+#![tactic(auto)]
+
 mod ceiling;
 mod delay;
 mod larger;

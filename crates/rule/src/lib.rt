@@ -1,5 +1,7 @@
 // The planning rule over a sheet. So far it has the ready times of the moves, and the earliest tick at which one drive can be through
 // with all of them. Nothing here changes a sheet or refuses one.
+#![tactic(auto)]
+
 mod over;
 mod ready;
 mod sweep;

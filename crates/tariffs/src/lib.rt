@@ -1,5 +1,7 @@
 // Tariffs: the curves of a sheet by their numbers, as the planner reads them. The trait says what a tariff promises; a single curve, two
 // tariffs joined and the tariff of a cue text stand here.
+#![tactic(auto)]
+
 mod cue_curve;
 mod cue_tariff;
 mod joined;

@@ -6,7 +6,7 @@ use crate::tariff::Tariff;
 
 // Writes what it costs by curve k to end at each of those ticks into the place of its number, as far as there are places.
 pub fn price_list<T: Tariff>(tariff: &T, k: u8, ticks: &[u32], prices: &mut [T::Cost])
-    ensures each { (i : ℕ) (d : T.Cost) → i < length ticks.now → i < length prices.new → slice_index_or prices.new i d ≡ reading (curve_at tariff.now k) (slice_index ticks.now i) }
+    ensures each { (i : ℕ) (d : T.Cost) → i < length ticks.now → i < length prices.new → slice_index_or prices.new i d ≡ reading (T.curve_at tariff.now k) (slice_index ticks.now i) }
     ensures later { drop (length ticks.now) prices.new ≡ drop (length ticks.now) prices.old }
 {
     fill(tariff, k, ticks, prices);
@@ -14,7 +14,7 @@ pub fn price_list<T: Tariff>(tariff: &T, k: u8, ticks: &[u32], prices: &mut [T::
 
 // The loop of a price list.
 fn fill<T: Tariff>(tariff: &T, k: u8, ticks: &[u32], prices: &mut [T::Cost])
-    ensures each { (i : ℕ) (d : T.Cost) → i < length ticks.now → i < length prices.new → slice_index_or prices.new i d ≡ reading (curve_at tariff.now k) (slice_index ticks.now i) }
+    ensures each { (i : ℕ) (d : T.Cost) → i < length ticks.now → i < length prices.new → slice_index_or prices.new i d ≡ reading (T.curve_at tariff.now k) (slice_index ticks.now i) }
     ensures later { drop (length ticks.now) prices.new ≡ drop (length ticks.now) prices.old }
 {
     let count = ticks.len().min(prices.len());

@@ -16,11 +16,11 @@ use Rattle.rule.proofs.sweep.earliest.Goals as goal
 
 pub loop-i-init : goal.loop-i-init
 loop-i-init c =
-    let start : left_of c.into-iter-i-iterator.result ≡ c.moves.result = ap left_of c.into-iter-i-iterator.ensures.into-iter-gives ∙ c.iter-i-items.ensures in
+    let start : left_of c.into_iter-i-iterator.result ≡ c.moves.result = ap left_of c.into_iter-i-iterator.ensures.into_iter_gives ∙ c.iter-i-items.ensures in
     omega (
       arith,
       ap (λ (f : Move). f.release) c.figures_of-time.ensures,
-      greatest_begins room (finishes (meaning c.args.sheet.now) (number c.args.m)) (holds (left_of c.into-iter-i-iterator.result))
+      greatest_begins room (finishes (meaning c.args.sheet.now) (number c.args.m)) (holds (left_of c.into_iter-i-iterator.result))
           (λ k off. finishes_off (meaning c.args.sheet.now) (sheet_sound c.args.sheet.now) (number c.args.m) k (sym (ap (λ (s : MoveSet). holds s k) start ∙ c.moves.ensures k) ∙ off)),
     )
 

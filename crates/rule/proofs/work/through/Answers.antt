@@ -16,8 +16,8 @@ use Rattle.rule.proofs.work.through.Goals as goal
 
 pub loop-j-init : goal.loop-j-init
 loop-j-init c =
-    let start : left_of c.into-iter-j-iterator.result ≡ c.moves.result = ap left_of c.into-iter-j-iterator.ensures.into-iter-gives ∙ c.iter-j-items.ensures in (
-      sym (greatest_begins room (through_at (meaning c.args.sheet.now)) (holds (left_of c.into-iter-j-iterator.result))
+    let start : left_of c.into_iter-j-iterator.result ≡ c.moves.result = ap left_of c.into_iter-j-iterator.ensures.into_iter_gives ∙ c.iter-j-items.ensures in (
+      sym (greatest_begins room (through_at (meaning c.args.sheet.now)) (holds (left_of c.into_iter-j-iterator.result))
           (λ k off. cond-false (on (meaning c.args.sheet.now) k) (through_from (meaning c.args.sheet.now) k) 0 (sym (ap (λ (s : MoveSet). holds s k) start ∙ c.moves.ensures k) ∙ off))),
       λ k h. sym (ap (λ (s : MoveSet). holds s k) start ∙ c.moves.ensures k) ∙ h,
     )

@@ -31,8 +31,8 @@ next c =
 
 pub loop-k-init : goal.loop-k-init
 loop-k-init c =
-    let start : left_of c.into-iter-k-iterator.result ≡ c.moves.result = ap left_of c.into-iter-k-iterator.ensures.into-iter-gives ∙ c.iter-k-items.ensures in
-    sym (sum_begins room (adds (meaning c.args.sheet.now) c.args.start) (holds (left_of c.into-iter-k-iterator.result))
+    let start : left_of c.into_iter-k-iterator.result ≡ c.moves.result = ap left_of c.into_iter-k-iterator.ensures.into_iter_gives ∙ c.iter-k-items.ensures in
+    sym (sum_begins room (adds (meaning c.args.sheet.now) c.args.start) (holds (left_of c.into_iter-k-iterator.result))
     (λ k off. work_off (meaning c.args.sheet.now) (sheet_sound c.args.sheet.now) c.args.start k (sym (ap (λ (s : MoveSet). holds s k) start ∙ c.moves.ensures k) ∙ off)))
 
 pub overflow_add-work : goal.overflow_add-work
