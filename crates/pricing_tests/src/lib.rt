@@ -1,3 +1,5 @@
+#![tactic(auto)]
+
 // Tests of costs, curves, layers and tariffs, in a crate of their own: the edges of every range, and the same questions to tariffs of
 // every make.
 #[cfg(test)]

@@ -1,5 +1,7 @@
 // A scene change from beginning to end: the sheet is filled call by call, each with its answer, and then the bars are listed with the
 // tick at which each can run at the earliest.
+#![tactic(auto)]
+
 mod change;
 mod listing;
 mod steps;

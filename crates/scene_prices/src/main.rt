@@ -1,4 +1,6 @@
 // What the bars of a scene change cost by the tick at which each of them ends.
+#![tactic(auto)]
+
 mod bars;
 mod pricing;
 mod refusals;

@@ -65,11 +65,11 @@ fn at_most_last(grade: u64, ticks: u64) -> Graded
 impl CostKind for Graded {
     ghost not_above = { graded_not_above };
 
-    ghost total = { first_of (Prim.search rules, Prim.grind (arith, Self.row.coded.inj)) };
+    ghost total = { Prim.search rules };
 
     ghost same = { λ a b h k. same_graded a b (Prim.grind (arith, nat_tests)) (Prim.grind (arith, nat_tests)) };
 
-    ghost chain = { first_of (Prim.search rules, Prim.grind (arith, Self.row.coded.inj)) };
+    ghost chain = { Prim.search rules };
 
     fn not_above(self, other: Graded) -> bool {
         let below = self.grade() < other.grade();

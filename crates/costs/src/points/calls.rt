@@ -51,11 +51,11 @@ fn at_most_highest(value: u64) -> Points
 impl CostKind for Points {
     ghost not_above = { points_not_above };
 
-    ghost total = { first_of (Prim.search rules, Prim.grind (arith, Self.row.coded.inj)) };
+    ghost total = { Prim.search rules };
 
     ghost same = { λ a b h k. same_points a b (omega (arith, leb-true (amount a) (amount b) h, leb-true (amount b) (amount a) k)) };
 
-    ghost chain = { first_of (Prim.search rules, Prim.grind (arith, Self.row.coded.inj)) };
+    ghost chain = { Prim.search rules };
 
     fn not_above(self, other: Points) -> bool {
         self.get() <= other.get()
