@@ -4,7 +4,7 @@ ghost use Rattle.costs.specs.Limits.{highest};
 ghost use Rattle.costs.specs.Points.{amount, points_of, points_not_above};
 ghost use Rattle.costs.specs.Refusals.{refused, unless};
 ghost use Rattle.std.proofs.Common.{arith, rules};
-ghost use Rattle.std.proofs.lemmas.Bool.{leb-true};
+ghost use Rattle.std.proofs.lemmas.Bool.Decides.{nat_tests};
 ghost use Rattle.costs.specs.Same.{same_points};
 
 use super::{HIGHEST, Points};
@@ -53,7 +53,7 @@ impl CostKind for Points {
 
     ghost total = { Prim.search rules };
 
-    ghost same = { λ a b h k. same_points a b (omega (arith, leb-true (amount a) (amount b) h, leb-true (amount b) (amount a) k)) };
+    ghost same = { λ a b h k. same_points a b (Prim.grind (arith, nat_tests)) };
 
     ghost chain = { Prim.search rules };
 

@@ -1,5 +1,5 @@
 // The tests on rows, and the look-up in them.
-ghost use Rattle.std.specs.Prelude.{◌≡◌, ◌≤◌, ◌&&◌, leb, length, take, if◌then◌else◌, nat_le, nat_lt};
+ghost use Rattle.std.specs.Prelude.{◌≡◌, ◌≤◌, ◌&&◌, length, take, if◌then◌else◌, nat_le, nat_lt};
 ghost use Rattle.time.specs.Ticks.{last_tick};
 ghost use Rattle.costs.specs.Limits.{highest};
 ghost use Rattle.curves.specs.Limits.{most_rows};
@@ -73,7 +73,7 @@ pub(super) fn points_at(rows: &[Row], t: u64) -> u64
 
 // The points of that row where it is at or before that tick, and else those of the rows before it.
 fn points_after(row: Row, t: u64, before: u64) -> u64
-    ensures { result ≡ (if leb row.tick t then row.points else before) }
+    ensures { result ≡ (if nat_le row.tick t then row.points else before) }
 {
     if row.tick <= t { row.points } else { before }
 }
