@@ -4,6 +4,10 @@ use Rattle.finite.specs.Below.{greatest}
 use Rattle.finite.proofs.Sums.{last_or_below}
 use Rattle.std.proofs.lemmas.Bool.{both_ways, cases_Bool, cases_eq, cases_lt}
 
+pub greatest_zero : (f : ℕ → ℕ) → greatest 0 f ≡ 0
+unfolding greatest
+greatest_zero f = refl
+
 pub greatest_next : (n : ℕ) (f : ℕ → ℕ) → greatest (n + 1) f ≡ max (greatest n f) (f n)
 unfolding greatest
 greatest_next n f = rw add-one
@@ -117,3 +121,6 @@ least_at n p f k l e =
       | inl none ↦ absurd (both_ways (p k) (none k l) e)
       | inr t ↦ (t.0, t.1.0, t.1.1, t.1.2)
     ]
+
+-- how a greatest value grows with its bound
+pub ruleset growing_greatest = (greatest_zero, greatest_next)

@@ -9,6 +9,10 @@ pub last_or_below : (k n : ℕ) → k < suc n → (k ≡ n) ⊎ (k < n)
 last_or_below k n h = elim (cases_order k n) [ inl e ↦ inl e | inr s ↦ elim s [ inl l ↦ inr l | inr g ↦ absurd (omega arith) ] ]
 
 -- one number more
+pub sum_empty : (f : ℕ → ℕ) → sum 0 f ≡ 0
+unfolding sum
+sum_empty f = refl
+
 pub sum_next : (n : ℕ) (f : ℕ → ℕ) → sum (n + 1) f ≡ sum n f + f n
 unfolding sum
 sum_next n f = rw add-one
@@ -131,3 +135,6 @@ sum_ones (suc n) = omega (arith, sum_ones n)
 pub count_le : (n : ℕ) (p : ℕ → Bool) → count n p ≤ n
 unfolding count
 count_le n p = omega (arith, sum_part n (λ _. 1) p, sum_ones n)
+
+-- how a sum grows with its bound
+pub ruleset growing_sum = (sum_empty, sum_next, sum_upto)

@@ -51,3 +51,8 @@ module _ (n : ℕ) (f : ℕ → ℕ) (rest : ℕ → Bool) where
 
     pub greatest_passes : greatest n (passed rest' f) ≡ max (greatest n (passed rest f)) (f i)
     greatest_passes = greatest_put n (passed rest f) (passed rest' f) i (f i) low (cond-true (rest i) 0 (f i) has) here elsewhere
+
+-- the steps of a walk that adds up, and of one that compares
+pub ruleset summing = (sum_begins, sum_passes, sum_ends)
+
+pub ruleset comparing = (greatest_begins, greatest_passes, greatest_ends)

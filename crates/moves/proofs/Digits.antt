@@ -1,5 +1,5 @@
 -- Binary digits of a word: the lowest digit is the rest by 2 and the others are those of the half, so each fact goes digit by digit.
-use Rattle.std.proofs.Common.{◌≡◌, ℕ, zero, suc, ◌+◌, ◌/◌, ◌%◌, ◌^◌, ◌<◌, Bool, true, false, cond, not, ◌&&◌, ◌||◌, eqb, sym, refl, ap, ◌∙◌, pow-suc, div-one, arith}
+use Rattle.std.proofs.Common.{◌≡◌, ℕ, zero, suc, ◌+◌, ◌-◌, ◌/◌, ◌%◌, ◌^◌, ◌<◌, ◌≤◌, Bool, true, false, cond, not, ◌&&◌, ◌||◌, eqb, sym, refl, ap, ◌∙◌, pow-suc, div-one, arith}
 use lib.Bits.{bit_and, bit_or, bit_xor}
 use lib.Count.{ones, ones_step, count_trailing_zeros, under}
 use lib.Dec.{eqb-zero-suc, eqb-suc-zero, eqb-suc-suc}
@@ -67,6 +67,19 @@ digit_power (suc i) zero =
     let even : 2 ^ suc i % 2 ≡ 0 = rw (pow-suc 2 i) (omega arith) in ap (λ x. eqb x 1) even ∙ sym (eqb-zero-suc i)
 digit_power (suc i) (suc k) =
     let half : 2 ^ suc i / 2 ≡ 2 ^ i = rw (pow-suc 2 i) (omega arith) in ap (digit k) half ∙ digit_power i k ∙ sym (eqb-suc-suc k i)
+
+pow-pos : (n : ℕ) → 1 ≤ 2 ^ n
+pow-pos zero = omega arith
+pow-pos (suc n) = omega (arith, pow-suc 2 n, pow-pos n)
+
+-- each digit of a word of ones
+pub digit_full : (n k : ℕ) → k < n → digit k (2 ^ n - 1) ≡ true
+unfolding digit
+digit_full zero k h = absurd (omega arith)
+digit_full (suc n) zero h =
+    let odd : (2 ^ suc n - 1) % 2 ≡ 1 = omega (arith, pow-suc 2 n, pow-pos n) in ap (λ x. eqb x 1) odd
+digit_full (suc n) (suc k) h =
+    let half : (2 ^ suc n - 1) / 2 ≡ 2 ^ n - 1 = omega (arith, pow-suc 2 n, pow-pos n) in ap (digit k) half ∙ digit_full n k (omega arith)
 
 -- ---- a digit by a shift
 

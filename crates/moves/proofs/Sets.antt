@@ -64,3 +64,7 @@ module _ (s t : MoveSet) (m : ℕ) (has : holds s m ≡ true) (less : (k : ℕ) 
   length_without =
       count_members s ∙ count_one_less room m (holds s) (holds_below s m has) has
       ∙ ap suc (sym (ap length (members_are t (λ k. not (eqb k m) && holds s k) less) ∙ length_rising room (λ k. not (eqb k m) && holds s k)))
+
+-- a set that holds what p says has as many moves as there are numbers with p
+pub count_as : (s : MoveSet) (p : ℕ → Bool) → ((k : ℕ) → holds s k ≡ p k) → length (members s) ≡ count room p
+count_as s p e = ap length (members_are s p e) ∙ length_rising room p

@@ -1,9 +1,9 @@
 -- How the code's operations on words change what a set holds: below the room each digit speaks for itself, and beyond it nothing is held.
-use Rattle.std.proofs.Common.{◌≡◌, ℕ, ◌*◌, ◌/◌, ◌%◌, ◌^◌, ◌<◌, ◌≤◌, Bool, true, false, not, ◌&&◌, ◌||◌, eqb, ltb, ◌⊎◌, [], ◌∷◌, length, Some, None, Decides, Option, sym, refl, ap, ◌∙◌, inl, inr, arith, MatchOption}
+use Rattle.std.proofs.Common.{◌≡◌, ℕ, ◌-◌, ◌*◌, ◌/◌, ◌%◌, ◌^◌, ◌<◌, ◌≤◌, Bool, true, false, not, ◌&&◌, ◌||◌, eqb, ltb, ◌⊎◌, [], ◌∷◌, length, Some, None, Decides, Option, sym, refl, ap, ◌∙◌, inl, inr, arith, MatchOption}
 use lib.Bits.{bit_and, bit_or, bit_xor}
 use lib.Count.{ones, count_trailing_zeros}
 use Rattle.std.proofs.lemmas.Nat.{one_shl}
-use Rattle.std.proofs.lemmas.Bool.{lt-ltb, ne_eqb, eqb-true, cases_lt, cases_Bool, both_ways}
+use Rattle.std.proofs.lemmas.Bool.{lt-ltb, le-ltb, ne_eqb, eqb-true, cases_lt, cases_Bool, both_ways}
 use Rattle.finite.specs.Below.{rising}
 use Rattle.finite.proofs.Sums.{count_ext}
 use Rattle.finite.proofs.Lists.{rising_first}
@@ -13,7 +13,7 @@ use Rattle.moves.specs.Number.{number}
 use Rattle.moves.specs.Words.{of, Holds}
 use Rattle.moves.specs.declared.number.MoveNumber.{MoveNumber}
 use Rattle.moves.specs.declared.set.MoveSet.{MoveSet}
-use Rattle.moves.proofs.Digits.{digit_or, digit_and, digit_minus, digit_power, digit_test, ones_count, lowest_set, clear_below, no_digits}
+use Rattle.moves.proofs.Digits.{digit_or, digit_and, digit_minus, digit_power, digit_full, digit_test, ones_count, lowest_set, clear_below, no_digits}
 use Rattle.moves.proofs.Sets.{members_are, none_members, count_members, nobody_holds, holds_beyond}
 
 -- what a set holds says what it lists
@@ -110,3 +110,10 @@ module _ (w : ℕ) where
   unfolding members
   lowest_listed None h = none_members (of w) h
   lowest_listed (Some m) h = rising_first room (holds (of w)) (number m) m.below h.0 h.1
+
+pub holds_full : (k : ℕ) → holds (of (2 ^ room - 1)) k ≡ ltb k room
+holds_full k = by (cases_lt k room)
+  where
+    by : (k < room) ⊎ (room ≤ k) → holds (of (2 ^ room - 1)) k ≡ ltb k room
+    by (inl h) = holds_at k h (2 ^ room - 1) ∙ digit_full room k h ∙ sym (lt-ltb k room h)
+    by (inr h) = holds_beyond (of (2 ^ room - 1)) k h ∙ sym (le-ltb k room h)

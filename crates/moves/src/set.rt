@@ -1,5 +1,5 @@
 // A set of moves: one word, with a bit for each number.
-ghost use Rattle.std.specs.Prelude.{◌≡◌, ℕ, ◌<◌, true, false, not, ◌&&◌, ◌||◌, [], ◌∷◌, length, Decides, MatchOption, ◌==◌};
+ghost use Rattle.std.specs.Prelude.{◌≡◌, ℕ, ◌<◌, true, false, not, ◌&&◌, ◌||◌, [], ◌∷◌, length, Decides, MatchOption, ◌==◌, nat_lt};
 ghost use Rattle.finite.specs.Below.{rising};
 ghost use Rattle.moves.specs.Room.{room};
 ghost use Rattle.moves.specs.Number.{number};
@@ -21,6 +21,13 @@ impl MoveSet {
         ensures listed { members result ≡ [] }
     {
         MoveSet { word: word::none() }
+    }
+
+    // The set of every move number.
+    pub fn all() -> MoveSet
+        ensures { (k : ℕ) → holds result k ≡ nat_lt k room }
+    {
+        MoveSet { word: word::every() }
     }
 
     // Whether the move is in the set.

@@ -1,5 +1,5 @@
 // The words of sets: bit n is 1 where the move with number n is in the set. Each function here says what the set of its answer holds.
-ghost use Rattle.std.specs.Prelude.{◌≡◌, ℕ, ◌<◌, true, false, not, ◌&&◌, ◌||◌, [], ◌∷◌, length, Decides, MatchOption, ◌==◌};
+ghost use Rattle.std.specs.Prelude.{◌≡◌, ℕ, ◌<◌, true, false, not, ◌&&◌, ◌||◌, [], ◌∷◌, length, Decides, MatchOption, ◌==◌, nat_lt};
 ghost use Rattle.finite.specs.Below.{rising};
 ghost use Rattle.moves.specs.Room.{room};
 ghost use Rattle.moves.specs.Number.{number};
@@ -14,6 +14,13 @@ pub(crate) fn none() -> u64
     ensures listed { members (of result) ≡ [] }
 {
     0
+}
+
+// The word of every move.
+pub(crate) fn every() -> u64
+    ensures { (k : ℕ) → holds (of result) k ≡ nat_lt k room }
+{
+    u64::MAX
 }
 
 // Whether the bit of that move is 1.

@@ -8,7 +8,7 @@ use Rattle.moves.specs.Room.{room}
 use Rattle.sheet.specs.Chains.{Chain, leads, link, more}
 use Rattle.sheet.specs.Facts.{Sound}
 use Rattle.sheet.specs.Ledger.{Ledger, on, length_of}
-use Rattle.sheet.specs.Limits.{last_tick}
+use Rattle.time.specs.Ticks.{last_tick}
 use Rattle.sheet.proofs.Chains.{leads_chain}
 use Rattle.sheet.proofs.Keeps.{tie_on}
 use Rattle.sheet.proofs.Spans.{absent}

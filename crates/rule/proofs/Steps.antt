@@ -4,11 +4,12 @@ use Rattle.finite.proofs.Walks.{lacks}
 use Rattle.moves.specs.Room.{room}
 use Rattle.sheet.specs.Facts.{Sound}
 use Rattle.sheet.specs.Ledger.{Ledger, on, length_of}
-use Rattle.sheet.specs.Limits.{last_tick}
+use Rattle.time.specs.Ticks.{last_tick}
 use Rattle.sheet.specs.declared.figures.Move.{Move}
 use Rattle.sheet.proofs.Keeps.{tie_on}
 use Rattle.sheet.proofs.Spans.{absent}
 use Rattle.rule.specs.Ready.{ready, ReadyLaw}
+use Rattle.rule.specs.Sweep.{Swept}
 use Rattle.rule.proofs.Rank.{source}
 use Rattle.rule.proofs.Times.{next_free, ready_equation, ready_times_lem, ready_unique, ready_within}
 use Rattle.std.proofs.lemmas.Bool.{and_cases, and_parts, both_ways, cases_Bool, cond-false, not-false, or_cases, or_left, or_right}
@@ -102,11 +103,6 @@ module _ (L : Ledger) (s : Sound L) where
   }
 
 -- ---- the table
-
--- how far the sweep is: the moves that are not left have their times
-pub record Swept (L : Ledger) (left : ℕ → Bool) (times : List ℕ) : Type 0 where
-  pub places : length times ≡ room
-  pub known : (j : ℕ) → left j ≡ false → get_or times j 0 ≡ ready L j
 
 pub swept_begins : (L : Ledger) (s : Sound L) (left : ℕ → Bool) → ((k : ℕ) → left k ≡ on L k) → Swept L left (replicate room 0)
 swept_begins L s left all = record { places = refl; known = λ j h. zeros room j ∙ sym (ready_absent L s j (sym (all j) ∙ h)) }

@@ -11,7 +11,7 @@ use Rattle.sheet.proofs.Keeps.{tie_on, tie_within}
 use Rattle.sheet.specs.Chains.{leads}
 use Rattle.sheet.specs.Facts.{Sound}
 use Rattle.sheet.specs.Ledger.{Ledger, on, release_of, length_of}
-use Rattle.sheet.specs.Limits.{last_tick}
+use Rattle.time.specs.Ticks.{last_tick}
 use Rattle.std.proofs.lemmas.Bool.{cases_Bool, cases_lt, cond-true, cond-false}
 
 -- when a move i that is tied to j could be finished, where f has the ready times; 0 of a move that is not

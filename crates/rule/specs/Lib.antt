@@ -1,3 +1,4 @@
 pub mod Ready
 pub mod Table
+pub mod Sweep
 pub mod Over

@@ -3,7 +3,7 @@ use Rattle.std.specs.Prelude.{◌≡◌, ℕ, ◌+◌, ◌≤◌, true, cond, �
 use Rattle.finite.specs.Below.{sum, greatest}
 use Rattle.moves.specs.Room.{room}
 use Rattle.sheet.specs.Ledger.{Ledger, on, length_of}
-use Rattle.sheet.specs.Limits.{last_tick}
+use Rattle.time.specs.Ticks.{last_tick}
 use Rattle.rule.specs.Ready.{ready}
 
 -- the work that no drive can begin before tick t: the lengths of all moves that are not ready earlier

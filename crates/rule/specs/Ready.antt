@@ -4,7 +4,7 @@ use Rattle.std.specs.Prelude.{◌≡◌, ℕ, zero, suc, ◌+◌, ◌≤◌, max
 use Rattle.finite.specs.Below.{greatest}
 use Rattle.moves.specs.Room.{room}
 use Rattle.sheet.specs.Ledger.{Ledger, on, release_of, length_of}
-use Rattle.sheet.specs.Limits.{last_tick}
+use Rattle.time.specs.Ticks.{last_tick}
 
 -- f gives every move its ready time: the greatest of its release and, for each tie from i to it, the ready time and the length of i together
 pub record ReadyTimes (L : Ledger) (f : ℕ → ℕ) : Type 0 where

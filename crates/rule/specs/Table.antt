@@ -1,5 +1,5 @@
 -- What tables of ready times say.
-use Rattle.std.specs.Prelude.{◌≡◌, ℕ, true, List, length, slice_index}
+use Rattle.std.specs.Prelude.{◌≡◌, ℕ, slice_index}
 use Rattle.moves.specs.Room.{room}
 use Rattle.sheet.specs.Ledger.{Ledger}
 use Rattle.rule.specs.Ready.{ready}
@@ -12,8 +12,3 @@ time_of t j = slice_index t.times j
 -- the table has the ready time of every number
 abbrev pub Tabled : Ledger → ReadyTable → Type 0
 Tabled L t = (j : ℕ) → time_of t j ≡ ready L j
-
--- a list of times has a place for each number, and the ready time of each move that m waits for
-pub record Known (L : Ledger) (m : ℕ) (times : List ℕ) : Type 0 where
-  pub places : length times ≡ room
-  pub waited : (i : ℕ) → L.tie i m ≡ true → slice_index times i ≡ ready L i

@@ -8,7 +8,7 @@ mod sweep;
 mod table;
 #[cfg(test)]
 mod tests;
-mod work;
+mod timed;
 
 pub use over::earliest_over;
 pub use ready::ready_times;

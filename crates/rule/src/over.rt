@@ -3,8 +3,7 @@ ghost use Rattle.std.specs.Prelude.{◌≡◌};
 ghost use Rattle.sheet.specs.Meaning.{meaning};
 ghost use Rattle.rule.specs.Over.{over, OverLaw};
 
-use crate::ready::ready_times;
-use crate::work::through;
+use crate::timed::Timed;
 use sheet::Sheet;
 
 // The earliest tick at which one drive can be through with every move; 0 for a sheet with no move.
@@ -12,5 +11,5 @@ pub fn earliest_over(sheet: &Sheet) -> u32
     ensures tick { result ≡ over (meaning sheet.now) }
     ensures law { OverLaw (meaning sheet.now) }
 {
-    through(sheet, &ready_times(sheet))
+    Timed::new(sheet).through()
 }

@@ -5,10 +5,7 @@ use sheet::Sheet;
 
 // The ready time that the sheet gives that move.
 fn ready_at(sheet: &Sheet, n: u64) -> u32 {
-    match MoveNumber::new(n) {
-        Some(m) => ready_times(sheet).at(m),
-        None => 0,
-    }
+    MoveNumber::new(n).map_or(0, |m| ready_times(sheet).at(m))
 }
 
 // Two moves wait for a third, and one for both of them; one more is free.

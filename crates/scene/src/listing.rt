@@ -2,7 +2,7 @@
 use crate::change::name_of;
 use moves::MoveNumber;
 use rule::{ReadyTable, earliest_over, ready_times};
-use sheet::Sheet;
+use sheet::{Move, Sheet};
 use std::io;
 
 // Prints a line for each bar on the sheet, and the earliest end of the whole change.
@@ -25,12 +25,9 @@ pub(crate) fn show(rt: &HostRuntime, sheet: &Sheet) -> io::Result<()> {
 fn show_bar(rt: &HostRuntime, sheet: &Sheet, ready: &ReadyTable, m: MoveNumber) -> io::Result<()> {
     let n = m.get();
     let name = name_of(n);
+    let Move { release, length, .. } = sheet.figures_of(m);
     let time = ready.at(m);
-    if let Some(figures) = sheet.figures(n) {
-        let release = figures.release;
-        let length = figures.length;
-        print!(rt; "{n:>3}  {name:<17}  {release:>7}  {length:>6}  {time:>5}")?;
-    }
+    print!(rt; "{n:>3}  {name:<17}  {release:>7}  {length:>6}  {time:>5}")?;
     show_waits(rt, sheet, m)
 }
 

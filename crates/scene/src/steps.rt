@@ -9,37 +9,12 @@ pub(crate) fn show(
     answers: &[Result<(), Refusal>],
 ) -> io::Result<()> {
     for (call, answer) in calls.iter().zip(answers) {
-        show_call(rt, *call)?;
-        show_answer(rt, *answer)?;
-    }
-    Ok(())
-}
-
-// Prints a call, without the end of its line.
-fn show_call(rt: &HostRuntime, call: Call) -> io::Result<()> {
-    match call {
-        Call::Enter {
-            number,
-            release,
-            length,
-            ..
-        } => print!(rt; "enter {number} from {release} for {length}"),
-        Call::Tie { before, after } => print!(rt; "tie {before} before {after}"),
-        Call::Cut { before, after } => print!(rt; "cut {before} before {after}"),
-        Call::Strike { number } => print!(rt; "strike {number}"),
-        Call::Plan => print!(rt; "plan"),
-        Call::Floor => print!(rt; "floor"),
-        Call::Check => print!(rt; "check"),
-    }
-}
-
-// Prints what came of a call, and ends its line.
-fn show_answer(rt: &HostRuntime, answer: Result<(), Refusal>) -> io::Result<()> {
-    match answer {
-        Ok(()) => println!(rt; ": done"),
-        Err(refusal) => {
-            let number = refusal.number();
-            println!(rt; ": refused with {number}, {refusal}")
+        match answer {
+            Ok(()) => println!(rt; "{call}: done")?,
+            Err(refusal) => {
+                println!(rt; "{call}: refused with {}, {refusal}", refusal.number())?
+            }
         }
     }
+    Ok(())
 }

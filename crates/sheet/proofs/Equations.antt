@@ -1,102 +1,102 @@
--- What the parts of a sheet mean after a change of one of them.
-use Rattle.std.proofs.Common.{◌≡◌, ℕ, zero, suc, ◌<◌, Bool, true, false, cond, not, ◌&&◌, ◌||◌, eqb, List, length, get_or, set, replicate, is_some, Some, None, refl, inl, inr, get_or-set_other, get_or-set_same}
-use Rattle.std.proofs.lemmas.Bool.{cases_eq, eq-eqb, ne_eqb}
-use Rattle.moves.specs.declared.set.MoveSet.{MoveSet}
-use Rattle.moves.specs.Members.{holds, nobody}
-use Rattle.moves.proofs.Sets.{nobody_holds}
+-- What the entries of a sheet mean, and what they mean after a change at one place.
+use Rattle.std.proofs.Common.{◌≡◌, ℕ, zero, suc, ◌<◌, true, false, cond, not, ◌&&◌, ◌||◌, eqb, List, length, set, replicate, is_some, Some, None, Option, sym, refl, ap, ◌∙◌, subst, inl, inr, get_or-set_other, get_or-set_same}
+use Rattle.std.proofs.lemmas.Bool.{cases_eq, eq-eqb, ne_eqb, and_parts, false≢true}
+use Rattle.sheet.specs.declared.entry.Entry.{Entry}
 use Rattle.sheet.specs.declared.figures.Move.{Move}
-use Rattle.sheet.specs.Ledger.{Ledger, blank, on, nothing, entered, tied, untied, struck}
-use Rattle.sheet.specs.Parts.{ledger_of}
+use Rattle.sheet.specs.Facts.{Sound}
+use Rattle.sheet.specs.Ledger.{Ledger, blank, on, entered, tied, untied, struck}
+use Rattle.sheet.specs.Parts.{entry_at, figures_in, waits_in, ledger_of}
 
 -- two ledgers are one where they have the same moves and the same ties
 pub same_ledger : (L M : Ledger) → ((n : ℕ) → L.move n ≡ M.move n) → ((i j : ℕ) → L.tie i j ≡ M.tie i j) → L ≡ M
 same_ledger L M p q = λ i. record { move = λ n. p n i; tie = λ a b. q a b i }
 
--- a place of a list after one of its places was set
-pub get_d_set : {A : Type 0} (xs : List A) (i : ℕ) (v d : A) → i < length xs → (k : ℕ) → get_or (set xs i v) k d ≡ cond (eqb k i) v (get_or xs k d)
-get_d_set xs i v d h k =
-    elim (cases_eq k i) [
-      | inl e ↦ rw (e, eq-eqb i i refl) (get_or-set_same xs i v d h)
-      | inr ne ↦ rw (ne_eqb k i ne) (get_or-set_other xs i k v d ne)
-    ]
-
-module _ (present : MoveSet) (moves : List Move) (ties : List MoveSet) where
-  -- the moves on the ledger are those of the set
-  pub on_parts : (n : ℕ) → on (ledger_of present moves ties) n ≡ holds present n
+module _ (entries : List (Option Entry)) where
+  -- the figures and the ties of a number are those of its entry
+  pub move_of : (n : ℕ) → (ledger_of entries).move n ≡ figures_in (entry_at entries n)
   unfolding ledger_of
-  on_parts n = either (holds present n)
+  move_of n = refl
+
+  pub tie_of : (i j : ℕ) → (ledger_of entries).tie i j ≡ waits_in (entry_at entries i) j
+  unfolding ledger_of
+  tie_of i j = refl
+
+  -- a move is on the sheet where there is an entry
+  pub on_of : (n : ℕ) → on (ledger_of entries) n ≡ is_some (entry_at entries n)
+  unfolding ledger_of
+  on_of n = either (entry_at entries n)
     where
-      either : (b : Bool) → is_some (cond b (Some (get_or moves n nothing)) None) ≡ b
-      either true = refl
-      either false = refl
+      either : (o : Option Entry) → is_some (figures_in o) ≡ is_some o
+      either (Some e) = refl
+      either None = refl
 
-  -- each with the figures at its place
-  pub move_parts : (n : ℕ) → holds present n ≡ true → (ledger_of present moves ties).move n ≡ Some (get_or moves n nothing)
-  unfolding ledger_of
-  move_parts n h = rw h
-
-  -- and without figures where it is not in the set
-  pub none_parts : (n : ℕ) → holds present n ≡ false → (ledger_of present moves ties).move n ≡ None
-  unfolding ledger_of
-  none_parts n h = rw h
-
--- every row of a table of one and the same set is that set, or past its end the set of no moves
-row_replicate : (n i j : ℕ) (none : MoveSet) → holds none j ≡ false → holds (get_or (replicate n none) i nobody) j ≡ false
-row_replicate zero i j none h = nobody_holds j
-row_replicate (suc n) zero j none h = h
-row_replicate (suc n) (suc i) j none h = row_replicate n i j none h
-
--- sets of no moves make the blank ledger, whatever the figures
-pub blank_parts : (present none : MoveSet) (moves : List Move) (n : ℕ) → ((k : ℕ) → holds present k ≡ false) → ((k : ℕ) → holds none k ≡ false)
-    → ledger_of present moves (replicate n none) ≡ blank
+-- no entry at any number is the blank ledger
+pub blank_parts : (n : ℕ) → ledger_of (replicate n None) ≡ blank
 unfolding ledger_of
-blank_parts present none moves n p q = same_ledger _ _ (λ k. rw (p k)) (λ i j. row_replicate n i j none (q j))
+blank_parts n = same_ledger _ _ (λ k. ap figures_in (none n k)) (λ i j. ap (λ o. waits_in o j) (none n i))
+  where
+    none : (n k : ℕ) → entry_at (replicate n None) k ≡ None
+    none zero k = refl
+    none (suc n) zero = refl
+    none (suc n) (suc k) = none n k
 
-module _ (present after : MoveSet) (moves : List Move) (ties : List MoveSet) (n : ℕ) where
-  -- a move is put into the set and its figures into their place
-  pub entered_parts : (m : Move) (i : ℕ) → i ≡ n → n < length moves → ((k : ℕ) → holds after k ≡ (eqb k n || holds present k))
-      → ledger_of after (set moves i m) ties ≡ entered n m (ledger_of present moves ties)
-  unfolding ledger_of
-  entered_parts m i at fits held =
-      same_ledger _ _ (λ k. rw (at, held k, get_d_set moves n m nothing fits k) (either (eqb k n) (holds present k) (get_or moves k nothing))) (λ i j. refl)
-    where
-      either : (b o : Bool) (f : Move) → cond (b || o) (Some (cond b m f)) None ≡ cond b (Some m) (cond o (Some f) None)
-      either true o f = refl
-      either false o f = refl
-
-  -- a move is taken out of the set and out of every row, and its own row is emptied
-  pub struck_parts : (rows : List MoveSet) → ((k : ℕ) → holds after k ≡ (not (eqb k n) && holds present k))
-      → ((a b : ℕ) → holds (get_or rows a nobody) b ≡ (not (eqb a n || eqb b n) && holds (get_or ties a nobody) b))
-      → ledger_of after moves rows ≡ struck n (ledger_of present moves ties)
-  unfolding ledger_of
-  struck_parts rows held kept = same_ledger _ _ (λ k. rw (held k) (either (eqb k n) (holds present k) (get_or moves k nothing))) kept
-    where
-      either : (b o : Bool) (f : Move) → cond (not b && o) (Some f) None ≡ cond b None (cond o (Some f) None)
-      either true o f = refl
-      either false o f = refl
-
-module _ (present : MoveSet) (moves : List Move) (ties : List MoveSet) (i j : ℕ) (row : MoveSet) (place : ℕ) (at : place ≡ i) (fits : i < length ties) where
-  -- a row of ties is replaced: whatever is so of the new row at i and of the others elsewhere is so of the table
-  row_set : (g : ℕ → ℕ → Bool) → ((b : ℕ) → holds row b ≡ g i b) → ((a b : ℕ) → (a ≡ i → ⊥) → holds (get_or ties a nobody) b ≡ g a b)
-      → (a b : ℕ) → holds (get_or (set ties place row) a nobody) b ≡ g a b
-  row_set g here there a b =
-      elim (cases_eq a i) [
-        | inl e ↦ rw (at, e, get_or-set_same ties i row nobody fits) (here b)
-        | inr ne ↦ rw (at, get_or-set_other ties i a row nobody ne) (there a b ne)
+-- an entry is put into its place
+module _ (entries : List (Option Entry)) (n place : ℕ) (at : place ≡ n) (fits : n < length entries) (new : Option Entry) where
+  -- whatever is so of the new entry there and of the others elsewhere is so of the entries
+  place_set : {B : Type 0} (f : Option Entry → B) (g : ℕ → B) → f new ≡ g n → ((k : ℕ) → (k ≡ n → ⊥) → f (entry_at entries k) ≡ g k)
+      → (k : ℕ) → f (entry_at (set entries place new) k) ≡ g k
+  place_set f g here there k =
+      elim (cases_eq k n) [
+        | inl e ↦ rw (at, e, get_or-set_same entries n new None fits) here
+        | inr ne ↦ rw (at, get_or-set_other entries n k new None ne) (there k ne)
       ]
 
-  -- the row at i has j as well
-  pub tied_parts : ((b : ℕ) → holds row b ≡ (eqb b j || holds (get_or ties place nobody) b))
-      → ledger_of present moves (set ties place row) ≡ tied i j (ledger_of present moves ties)
+  -- a move that was not there, and for which no move waits
+  pub entered_parts : (m : Move) → figures_in new ≡ Some m → ((b : ℕ) → waits_in new b ≡ false) → on (ledger_of entries) n ≡ false
+      → ledger_of (set entries place new) ≡ entered n m (ledger_of entries)
   unfolding ledger_of
-  tied_parts held =
-      same_ledger _ _ (λ k. refl)
-      (row_set (λ a b. (eqb a i && eqb b j) || holds (get_or ties a nobody) b) (λ b. rw (held b, at, eq-eqb i i refl)) (λ a b ne. rw (ne_eqb a i ne)))
+  entered_parts m is none free =
+      same_ledger _ _ (place_set figures_in (λ k. cond (eqb k n) (Some m) (figures_in (entry_at entries k))) (rw (eq-eqb n n refl) is) (λ k ne. rw (ne_eqb k n ne) refl))
+      (λ a b. place_set (λ o. waits_in o b) (λ k. waits_in (entry_at entries k) b) (none b ∙ sym (alone (entry_at entries n) free b)) (λ k ne. refl) a)
+    where
+      alone : (o : Option Entry) → is_some (figures_in o) ≡ false → (b : ℕ) → waits_in o b ≡ false
+      alone (Some e) h b = absurd (false≢true (sym h))
+      alone None h b = refl
 
-  -- the row at i has j no more
-  pub untied_parts : ((b : ℕ) → holds row b ≡ (not (eqb b j) && holds (get_or ties place nobody) b))
-      → ledger_of present moves (set ties place row) ≡ untied i j (ledger_of present moves ties)
-  unfolding ledger_of
-  untied_parts held =
-      same_ledger _ _ (λ k. refl)
-      (row_set (λ a b. not (eqb a i && eqb b j) && holds (get_or ties a nobody) b) (λ b. rw (held b, at, eq-eqb i i refl)) (λ a b ne. rw (ne_eqb a i ne)))
+  module _ (old : Option Entry) (was : old ≡ entry_at entries n) (j : ℕ) (same : figures_in new ≡ figures_in old) where
+    same_moves : (k : ℕ) → figures_in (entry_at (set entries place new) k) ≡ figures_in (entry_at entries k)
+    same_moves = place_set figures_in (λ k. figures_in (entry_at entries k)) (same ∙ ap figures_in was) (λ k ne. refl)
+
+    -- the same move, and j waits for it too
+    pub tied_parts : on (ledger_of entries) n ≡ true → ((b : ℕ) → waits_in new b ≡ (is_some old && (eqb b j || waits_in old b))) → ledger_of (set entries place new) ≡ tied n j (ledger_of entries)
+    unfolding ledger_of
+    tied_parts here more =
+        same_ledger _ _ same_moves
+        (λ a b. place_set (λ o. waits_in o b) (λ k. (eqb k n && eqb b j) || waits_in (entry_at entries k) b)
+        (more b ∙ rw (was, sym (on_of entries n) ∙ here, eq-eqb n n refl) refl) (λ k ne. rw (ne_eqb k n ne) refl) a)
+
+    -- the same move, and j does not wait for it
+    pub untied_parts : ((b : ℕ) → waits_in new b ≡ (not (eqb b j) && waits_in old b)) → ledger_of (set entries place new) ≡ untied n j (ledger_of entries)
+    unfolding ledger_of
+    untied_parts less =
+        same_ledger _ _ same_moves
+        (λ a b. place_set (λ o. waits_in o b) (λ k. not (eqb k n && eqb b j) && waits_in (entry_at entries k) b)
+        (less b ∙ rw (was, eq-eqb n n refl) refl) (λ k ne. rw (ne_eqb k n ne) refl) a)
+
+-- no move of the others waits for n, and the place of n is empty
+pub struck_parts : (old rest : List (Option Entry)) (n place : ℕ) → place ≡ n → n < length rest → ((k : ℕ) → figures_in (entry_at rest k) ≡ figures_in (entry_at old k))
+    → ((a b : ℕ) → waits_in (entry_at rest a) b ≡ (not (eqb b n) && waits_in (entry_at old a) b))
+    → ledger_of (set rest place None) ≡ struck n (ledger_of old)
+unfolding ledger_of
+struck_parts old rest n place at fits same less =
+    same_ledger _ _
+    (place_set rest n place at fits None figures_in (λ k. cond (eqb k n) None (figures_in (entry_at old k))) (rw (eq-eqb n n refl) refl) (λ k ne. rw (ne_eqb k n ne) (same k)))
+    (λ a b. place_set rest n place at fits None (λ o. waits_in o b) (λ k. not (eqb k n || eqb b n) && waits_in (entry_at old k) b) (rw (eq-eqb n n refl) refl) (λ k ne. rw (ne_eqb k n ne) (less k b)) a)
+
+-- where a sheet with a tie keeps everything, the first of its moves is on the sheet
+pub tied_on : (i j : ℕ) (L : Ledger) → Sound (tied i j L) → on L i ≡ true
+tied_on i j L s = (and_parts (on L i) (on L j) (s.ends i j (rw (eq-eqb i i refl, eq-eqb j j refl) refl))).0
+
+-- what is so of a ledger is so of one that is the same
+pub sound_as : {L M : Ledger} → L ≡ M → Sound M → Sound L
+sound_as same s = subst (λ (K : Ledger). Sound K) (sym same) s

@@ -8,12 +8,12 @@ use Rattle.moves.specs.Room.{room}
 use Rattle.sheet.specs.declared.call.Call.{Call}
 use Rattle.sheet.specs.declared.call.Call.TheVariants.{Enter, Tie, Cut, Strike, Plan, Floor, Check}
 use Rattle.sheet.specs.declared.figures.Move.{Move}
-use Rattle.sheet.specs.Limits.{last_tick}
+use Rattle.time.specs.Ticks.{last_tick}
 use Rattle.sheet.specs.Ledger.{Ledger, blank, on, nothing, release_of, length_of, span, entered, tied, untied, struck}
 use Rattle.sheet.specs.Facts.{Sound, InSpan, ranged, in_range}
 use Rattle.sheet.specs.Refusals.{refusal, changed, feed}
 use Rattle.sheet.specs.Runs.{fed}
-use Rattle.sheet.specs.Chains.{Chain, leads}
+use Rattle.sheet.specs.Chains.{Chain, leads, closes}
 use Rattle.sheet.proofs.Chains.{Within, chain_leads, chain_mono, chain_start, added_acyclic}
 
 -- a ledger with no move keeps everything
@@ -69,6 +69,12 @@ tied_sound i j L s oi oj apart back = record {
   acyclic = added_acyclic L.tie i j apart back s.acyclic;
   short = s.short;
 }
+
+-- the same by the test: it passes where the tie closes no chain
+pub open_sound : (i j : ℕ) (L : Ledger) → Sound L → on L i ≡ true → on L j ≡ true → closes L.tie i j ≡ false → Sound (tied i j L)
+open_sound i j L s oi oj open' =
+    let neither = or_parts (eqb i j) (leads L.tie j i) open' in
+    tied_sound i j L s oi oj (eqb-false i j neither.0) (λ t. both_ways (leads L.tie j i) neither.1 (chain_leads L.tie j i (tie_within L s) t))
 
 -- a tie less
 pub untied_sound : (i j : ℕ) (L : Ledger) → Sound L → Sound (untied i j L)
@@ -128,9 +134,9 @@ changed_sound (Enter n r l c) L s h =
     let low = passes (leb room n) _ _ h in let free = passes (on L n) _ _ low.1 in let good = passes (not (in_range r l c)) _ _ free.1 in let short = passes (ltb last_tick (span (changed (Enter n r l c) L))) _ _ good.1 in
     entered_sound n (record { release = r; length = l; curve = c }) L s (leb-false room n low.0) (not-false (in_range r l c) good.0) (ltb-false last_tick (span (changed (Enter n r l c) L)) short.0)
 changed_sound (Tie i j) L s h =
-    let low = passes (leb room i || leb room j) _ _ h in let here = passes (not (on L i) || not (on L j)) _ _ low.1 in let open' = passes (eqb i j || leads L.tie j i) _ _ here.1 in
-    let both = or_parts (not (on L i)) (not (on L j)) here.0 in let apart = or_parts (eqb i j) (leads L.tie j i) open'.0 in
-    tied_sound i j L s (not-false _ both.0) (not-false _ both.1) (eqb-false i j apart.0) (λ t. both_ways (leads L.tie j i) apart.1 (chain_leads L.tie j i (tie_within L s) t))
+    let low = passes (leb room i || leb room j) _ _ h in let here = passes (not (on L i) || not (on L j)) _ _ low.1 in let open' = passes (closes L.tie i j) _ _ here.1 in
+    let both = or_parts (not (on L i)) (not (on L j)) here.0 in
+    open_sound i j L s (not-false _ both.0) (not-false _ both.1) open'.0
 changed_sound (Cut i j) L s h = untied_sound i j L s
 changed_sound (Strike n) L s h = struck_sound n L s
 changed_sound Plan L s h = s

@@ -1,8 +1,9 @@
 pub mod Chains
 pub mod Keeps
 pub mod Reach
-pub mod Rows
 pub mod Replays
 pub mod Equations
 pub mod Sheets
 pub mod Spans
+pub mod Gathers
+pub mod Frees

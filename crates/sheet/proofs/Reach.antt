@@ -68,3 +68,6 @@ module _ (tie : ℕ → ℕ → Bool) (first found unseen : ℕ → Bool) where
       all : Chain tie i k → found k ≡ true
       all (link t) = s.begun k (starts k ∙ t)
       all (more {k = j} t c) = closed_chain closed (s.begun j (starts j ∙ t)) c
+
+-- the steps of the search
+pub ruleset searching = (search_begins, search_goes_on, search_ends)

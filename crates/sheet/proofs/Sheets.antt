@@ -1,33 +1,34 @@
 -- What is true of every sheet, read off what its type carries.
-use Rattle.std.proofs.Common.{◌≡◌, ℕ, ◌≤◌, false, ◌⊎◌, None, sym, ◌∙◌, inl, inr, arith}
-use Rattle.std.proofs.lemmas.Bool.{cases_Bool}
+use Rattle.std.proofs.Common.{◌≡◌, ℕ, ◌≤◌, false, ◌⊎◌, None, is_some, ap, ◌∙◌, inl, inr, arith}
+use Rattle.std.proofs.lemmas.Bool.{cases_Bool, cases_lt, both_ways}
+use Rattle.std.proofs.lemmas.List.{get_or_past}
 use Rattle.moves.specs.Room.{room}
-use Rattle.moves.proofs.Sets.{holds_below, holds_beyond}
 use Rattle.sheet.specs.declared.sheet.Sheet.{Sheet}
+use Rattle.sheet.specs.Chains.{TellsChains}
 use Rattle.sheet.specs.Facts.{Sound}
 use Rattle.sheet.specs.Ledger.{on}
 use Rattle.sheet.specs.Meaning.{meaning}
-use Rattle.sheet.proofs.Equations.{on_parts, none_parts}
-use Rattle.sheet.specs.Chains.{TellsChains}
+use Rattle.sheet.specs.Parts.{figures_in}
 use Rattle.sheet.proofs.Chains.{decides}
+use Rattle.sheet.proofs.Equations.{move_of}
 use Rattle.sheet.proofs.Keeps.{tie_within}
+
+-- no move past the room is on a sheet
+pub move_beyond : (s : Sheet) (n : ℕ) → room ≤ n → (meaning s).move n ≡ None
+move_beyond s n far = move_of s.entries n ∙ ap figures_in (get_or_past s.entries n None (omega (arith, s.places)))
+
+pub on_beyond : (s : Sheet) (n : ℕ) → room ≤ n → on (meaning s) n ≡ false
+on_beyond s n far = ap is_some (move_beyond s n far)
 
 -- the ledger of a sheet keeps everything that a sheet keeps
 pub sheet_sound : (s : Sheet) → Sound (meaning s)
 sheet_sound s = record {
-  numbered = λ n h. holds_below s.present n (sym (on_parts s.present s.moves s.ties n) ∙ h);
+  numbered = λ n h. elim (cases_lt n room) [ inl l ↦ l | inr far ↦ absurd (both_ways (on (meaning s) n) (on_beyond s n far) h) ];
   ranges = s.ranges;
   ends = s.ends;
   acyclic = s.acyclic;
   short = s.short;
 }
-
--- no move past the room is on a sheet
-pub on_beyond : (s : Sheet) (n : ℕ) → room ≤ n → on (meaning s) n ≡ false
-on_beyond s n far = on_parts s.present s.moves s.ties n ∙ holds_beyond s.present n far
-
-pub move_beyond : (s : Sheet) (n : ℕ) → room ≤ n → (meaning s).move n ≡ None
-move_beyond s n far = none_parts s.present s.moves s.ties n (holds_beyond s.present n far)
 
 -- no tie has an end past the room
 pub tie_beyond : (s : Sheet) (i j : ℕ) → (room ≤ i) ⊎ (room ≤ j) → (meaning s).tie i j ≡ false

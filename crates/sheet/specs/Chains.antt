@@ -1,5 +1,5 @@
 -- Chains of ties: which move has to wait for which in the end. Scheduling texts call this precedence.
-use Rattle.std.specs.Prelude.{◌≡◌, ℕ, zero, suc, Bool, true, false, ◌||◌, Decides}
+use Rattle.std.specs.Prelude.{◌≡◌, ℕ, zero, suc, Bool, true, false, ◌||◌, Decides, ◌==◌}
 use Rattle.finite.specs.Below.{any}
 use Rattle.moves.specs.Room.{room}
 
@@ -16,6 +16,10 @@ leads_in tie (suc n) i j = tie i j || any room (λ k. elim (tie i k) [ true ↦ 
 -- whether ties lead from i to j: a shortest chain passes no move twice
 unfoldable pub leads : (ℕ → ℕ → Bool) → ℕ → ℕ → Bool
 leads tie i j = leads_in tie room i j
+
+-- whether a tie from i to j would let a chain return to its start: both are one move, or ties already lead from j to i
+abbrev pub closes : (ℕ → ℕ → Bool) → ℕ → ℕ → Bool
+closes tie i j = i == j || leads tie j i
 
 -- that test is about chains: it passes exactly where ties lead from i to j
 abbrev pub TellsChains : (ℕ → ℕ → Bool) → Type 0

@@ -1,7 +1,8 @@
 -- What every sheet keeps.
 use Rattle.std.specs.Prelude.{◌≡◌, ℕ, ◌<◌, ◌≤◌, Bool, true, ◌&&◌, nat_le}
 use Rattle.moves.specs.Room.{room}
-use Rattle.sheet.specs.Limits.{last_tick, last_release, longest, last_curve}
+use Rattle.time.specs.Ticks.{last_tick}
+use Rattle.sheet.specs.Limits.{last_release, longest, last_curve}
 use Rattle.sheet.specs.Ledger.{Ledger, on, figures, span}
 use Rattle.sheet.specs.Chains.{Chain}
 use Rattle.sheet.specs.declared.figures.Move.{Move}

@@ -1,5 +1,5 @@
 -- The ledger of a sheet: what its moves and ties are, as plain mathematics. The numbers in it are natural numbers without a bound.
-use Rattle.std.specs.Prelude.{ℕ, ◌+◌, Bool, false, cond, not, ◌&&◌, ◌||◌, is_some, Some, None, Option, ◌==◌}
+use Rattle.std.specs.Prelude.{ℕ, ◌+◌, max, Bool, false, cond, not, ◌&&◌, ◌||◌, is_some, Some, None, Option, ◌==◌}
 use Rattle.std.specs.Option.{unwrap_or}
 use Rattle.finite.specs.Below.{sum, greatest}
 use Rattle.moves.specs.Room.{room}
@@ -38,6 +38,10 @@ length_of L n = (figures L n).length
 -- the span of a sheet: the greatest release and all lengths together
 abbrev pub span : Ledger → ℕ
 span L = greatest room (release_of L) + sum room (length_of L)
+
+-- the span that it would have with one move more
+abbrev pub span_with : Ledger → Move → ℕ
+span_with L m = max (greatest room (release_of L)) m.release + (sum room (length_of L) + m.length)
 
 -- the four changes that an accepted call makes
 

@@ -6,3 +6,4 @@ pub mod Refusals
 pub mod Runs
 pub mod Parts
 pub mod Meaning
+pub mod Shown

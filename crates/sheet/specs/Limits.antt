@@ -1,9 +1,5 @@
--- The ranges of a sheet's numbers. Time is a whole number of ticks of a tenth of a second.
+-- The ranges of a move's figures.
 use Rattle.std.specs.Prelude.{ℕ}
-
--- the last tick: no move of a sheet need run past it
-abbrev pub last_tick : ℕ
-last_tick = 1_000_000
 
 -- a release is at most this
 abbrev pub last_release : ℕ

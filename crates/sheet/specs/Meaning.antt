@@ -9,7 +9,7 @@ use Rattle.sheet.specs.declared.sheet.Sheet.{Sheet}
 
 -- the ledger of a sheet
 abbrev pub meaning : Sheet → Ledger
-meaning s = ledger_of s.present s.moves s.ties
+meaning s = ledger_of s.entries
 
 -- the number of the refusal that a call answered, or None where it was accepted
 abbrev pub refused : {A : Type 0} → Result A Refusal → Option ℕ

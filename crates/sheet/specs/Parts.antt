@@ -1,13 +1,32 @@
--- What the parts of a sheet mean: the set of moves on it, the table of their figures and the table of the moves tied to each.
-use Rattle.std.specs.Prelude.{cond, List, Some, None, slice_index_or}
-use Rattle.moves.specs.declared.set.MoveSet.{MoveSet}
-use Rattle.moves.specs.Members.{holds, nobody}
+-- What the entries of a sheet mean.
+use Rattle.std.specs.Prelude.{ℕ, Bool, false, List, Some, None, Option, slice_index_or}
+use Rattle.moves.specs.Members.{holds}
+use Rattle.std.specs.Option.{unwrap_or}
 use Rattle.sheet.specs.Ledger.{Ledger, nothing}
+use Rattle.sheet.specs.declared.entry.Entry.{Entry}
 use Rattle.sheet.specs.declared.figures.Move.{Move}
 
--- the ledger that the three parts stand for
-unfoldable pub ledger_of : MoveSet → List Move → List MoveSet → Ledger
-ledger_of present moves ties = record {
-  move = λ n. cond (holds present n) (Some (slice_index_or moves n nothing)) None;
-  tie = λ i j. holds (slice_index_or ties i nobody) j;
+-- the entry at a number, or None where there is none
+abbrev pub entry_at : List (Option Entry) → ℕ → Option Entry
+entry_at entries n = slice_index_or entries n None
+
+-- the figures of an entry
+abbrev pub figures_in : Option Entry → Option Move
+figures_in (Some e) = Some e.figures
+figures_in None = None
+
+-- the figures at a place; all 0 where no move stands there
+abbrev pub figures_at : Option Entry → Move
+figures_at place = unwrap_or (figures_in place) nothing
+
+-- whether a move waits for the one of an entry
+abbrev pub waits_in : Option Entry → ℕ → Bool
+waits_in (Some e) j = holds e.followers j
+waits_in None j = false
+
+-- the ledger that the entries stand for
+unfoldable pub ledger_of : List (Option Entry) → Ledger
+ledger_of entries = record {
+  move = λ n. figures_in (entry_at entries n);
+  tie = λ i j. waits_in (entry_at entries i) j;
 }

@@ -1,9 +1,9 @@
 -- Which calls are refused, for which reason, and what a call makes of the ledger.
-use Rattle.std.specs.Prelude.{ℕ, Bool, cond, not, ◌||◌, Some, None, Option, ◌==◌, nat_le, nat_lt}
+use Rattle.std.specs.Prelude.{ℕ, Bool, cond, not, ◌||◌, Some, None, Option, nat_le, nat_lt}
 use Rattle.moves.specs.Room.{room}
-use Rattle.sheet.specs.Limits.{last_tick}
+use Rattle.time.specs.Ticks.{last_tick}
 use Rattle.sheet.specs.Ledger.{Ledger, on, span, entered, tied, untied, struck}
-use Rattle.sheet.specs.Chains.{leads}
+use Rattle.sheet.specs.Chains.{closes}
 use Rattle.sheet.specs.Facts.{in_range}
 use Rattle.sheet.specs.declared.refusal.Refusal.{Refusal}
 use Rattle.sheet.specs.declared.refusal.Refusal.TheVariants.{NumberTooHigh, NumberTaken, MoveAbsent, OutOfRange, SpanTooLong, ChainReturns, TieAbsent}
@@ -40,7 +40,7 @@ refusal (Enter n r l c) L =
     (refuse (not (in_range r l c)) OutOfRange
     (refuse (nat_lt last_tick (span (entered n (record { release = r; length = l; curve = c }) L))) SpanTooLong
     None)))
-refusal (Tie i j) L = both_named i j L (refuse (i == j || leads L.tie j i) ChainReturns None)
+refusal (Tie i j) L = both_named i j L (refuse (closes L.tie i j) ChainReturns None)
 refusal (Cut i j) L = both_named i j L (refuse (not (L.tie i j)) TieAbsent None)
 refusal (Strike n) L = named n L None
 -- the questions to the planner: the sheet has nothing to refuse in them

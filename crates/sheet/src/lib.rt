@@ -2,10 +2,12 @@
 #![tactic(auto)]
 
 mod call;
+mod entry;
 mod figures;
 mod refusal;
 mod runs;
 mod sheet;
+mod tie;
 
 pub use call::Call;
 pub use figures::Move;

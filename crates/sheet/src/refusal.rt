@@ -2,24 +2,25 @@
 ghost use Rattle.std.specs.Prelude.{◌≡◌};
 ghost use Rattle.sheet.specs.Refusals.{number_of};
 
+use std::error::Error;
 use std::fmt;
 
-#[derive(Clone, Copy, PartialEq, Eq)]
+#[derive(Clone, Copy, PartialEq, Eq, Debug)]
 pub enum Refusal {
     // there is no such move number
-    NumberTooHigh,
+    NumberTooHigh = 1,
     // the number is on the sheet already
-    NumberTaken,
+    NumberTaken = 2,
     // a named move is not on the sheet
-    MoveAbsent,
+    MoveAbsent = 3,
     // a release, a length or a curve number is outside its range
-    OutOfRange,
+    OutOfRange = 4,
     // the greatest release and all lengths together would pass the last tick
-    SpanTooLong,
+    SpanTooLong = 5,
     // both moves are one, or ties already lead from the second to the first
-    ChainReturns,
+    ChainReturns = 6,
     // there is no such tie
-    TieAbsent,
+    TieAbsent = 7,
 }
 
 impl Refusal {
@@ -27,15 +28,7 @@ impl Refusal {
     pub fn number(self) -> u8
         ensures { result ≡ number_of self }
     {
-        match self {
-            Refusal::NumberTooHigh => 1,
-            Refusal::NumberTaken => 2,
-            Refusal::MoveAbsent => 3,
-            Refusal::OutOfRange => 4,
-            Refusal::SpanTooLong => 5,
-            Refusal::ChainReturns => 6,
-            Refusal::TieAbsent => 7,
-        }
+        self as u8
     }
 }
 
@@ -53,3 +46,5 @@ impl fmt::Display for Refusal {
         f.write_str(words)
     }
 }
+
+impl Error for Refusal {}

@@ -35,6 +35,7 @@ fn make_all(sheet: &mut Sheet, calls: &[Call], answers: &mut [Result<(), Refusal
 }
 
 // Writes an answer into its place, where there is one.
+#[tactic(auto, using(std::proofs::lemmas::List::set_past))]
 fn put(answers: &mut [Result<(), Refusal>], i: usize, answer: Result<(), Refusal>)
     ensures { answers.new ≡ slice_set answers.old i answer }
 {

@@ -32,17 +32,14 @@ fn strike(number: u64) -> Call {
 }
 
 fn answer(r: Result<(), Refusal>) -> u8 {
-    match r {
-        Ok(()) => 0,
-        Err(refusal) => refusal.number(),
-    }
+    r.err().map_or(0, |refusal| refusal.number())
 }
 
 // The sheet after the calls of a table, each of which answers as the table says.
 fn after(rt: &impl Abort, rows: &[(Call, u8)]) -> Sheet {
     let mut sheet = Sheet::open();
-    for row in rows {
-        assert_eq!(rt; answer(sheet.apply(row.0)), row.1);
+    for (call, number) in rows {
+        assert_eq!(rt; answer(sheet.apply(*call)), *number);
     }
     sheet
 }
@@ -137,13 +134,10 @@ fn ties_and_chains(rt: HostRuntime) -> Result<(), Fail> {
     assert!(rt; sheet.tied(1, 2) && sheet.tied(1, 3) && !sheet.tied(2, 1));
     assert!(rt; !sheet.tied(64, 1) && !sheet.tied(1, MAX));
     assert!(rt; sheet.count() == 3 && sheet.moves().count() == 3);
-    match MoveNumber::new(1) {
-        Some(m) => {
-            assert!(rt; sheet.moves().contains(m) && sheet.waiting_for(m).count() == 2);
-            Ok(())
-        },
-        None => Err(Fail::new("no such number")),
-    }
+    let m = MoveNumber::new(1).ok_or_else(|| Fail::new("no such number"))?;
+    assert!(rt; sheet.moves().contains(m) && sheet.waiting_for(m).count() == 2);
+    assert!(rt; sheet.figures_of(m).length == 1);
+    Ok(())
 }
 
 #[test]

@@ -6,8 +6,7 @@ ghost use Rattle.sheet.specs.Ledger.{blank};
 ghost use Rattle.sheet.specs.Meaning.{meaning, refused};
 ghost use Rattle.sheet.specs.Refusals.{refusal, feed};
 
-use super::parts::unused;
-use super::{Sheet, tries};
+use super::Sheet;
 use crate::call::Call;
 use crate::refusal::Refusal;
 
@@ -16,7 +15,7 @@ impl Sheet {
     pub fn open() -> Sheet
         ensures { meaning result ≡ blank }
     {
-        unused()
+        Sheet::unused()
     }
 
     // Puts a move on the sheet, with a number that the caller chooses.
@@ -24,7 +23,7 @@ impl Sheet {
         ensures answer { refused result ≡ refusal (Call.Enter n release length curve) (meaning self.old) }
         ensures fed { meaning self.new ≡ feed (Call.Enter n release length curve) (meaning self.old) }
     {
-        *self = tries::entering(self, n, release, length, curve)?;
+        *self = self.entering(n, release, length, curve)?;
         Ok(())
     }
 
@@ -34,7 +33,7 @@ impl Sheet {
         ensures fed { meaning self.new ≡ feed (Call.Tie before after) (meaning self.old) }
         ensures chains { TellsChains (meaning self.old).tie }
     {
-        *self = tries::tying(self, before, after)?;
+        *self = self.tying(before, after)?;
         Ok(())
     }
 
@@ -43,7 +42,7 @@ impl Sheet {
         ensures answer { refused result ≡ refusal (Call.Cut before after) (meaning self.old) }
         ensures fed { meaning self.new ≡ feed (Call.Cut before after) (meaning self.old) }
     {
-        *self = tries::cutting(self, before, after)?;
+        *self = self.cutting(before, after)?;
         Ok(())
     }
 
@@ -52,7 +51,7 @@ impl Sheet {
         ensures answer { refused result ≡ refusal (Call.Strike n) (meaning self.old) }
         ensures fed { meaning self.new ≡ feed (Call.Strike n) (meaning self.old) }
     {
-        *self = tries::striking(self, n)?;
+        *self = self.striking(n)?;
         Ok(())
     }
 

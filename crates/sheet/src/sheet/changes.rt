@@ -1,78 +1,86 @@
-// The four changes of a sheet. Each gives the changed sheet whole; what makes the change lawful is asked of the caller, which tries it.
-ghost use Rattle.std.specs.Prelude.{◌≡◌, ℕ, not, ◌&&◌, ◌||◌, ◌==◌, slice_index_or};
+// The four changes of a sheet. Each gives the changed sheet whole; where a change could break what a sheet keeps, the caller has to know that it
+// does not.
+ghost use Rattle.std.specs.Prelude.{◌≡◌, ◌≤◌, true, false};
 ghost use Rattle.moves.specs.Number.{number};
-ghost use Rattle.moves.specs.Members.{holds, nobody};
-ghost use Rattle.sheet.specs.Facts.{Sound};
-ghost use Rattle.sheet.specs.Ledger.{entered, tied, untied, struck};
+ghost use Rattle.time.specs.Ticks.{last_tick};
+ghost use Rattle.sheet.specs.Chains.{closes};
+ghost use Rattle.sheet.specs.Facts.{Sound, ranged};
+ghost use Rattle.sheet.specs.Ledger.{blank, on, span_with, entered, tied, untied, struck};
 ghost use Rattle.sheet.specs.Meaning.{meaning};
+ghost use Rattle.sheet.specs.Parts.{ledger_of};
 
 use super::Sheet;
-use super::parts::assembled;
+use crate::entry::{Entry, with_follower, without_follower};
 use crate::figures::Move;
-use moves::{MoveNumber, MoveSet, ROOM};
+use crate::tie::Tie;
+use moves::{MoveNumber, ROOM};
 
-// The sheet with one move more.
-pub(super) fn with_move(sheet: &Sheet, m: MoveNumber, figures: Move) -> Sheet
-    requires { Sound (entered (number m) figures (meaning sheet.now)) }
-    ensures { meaning result ≡ entered (number m) figures (meaning sheet.now) }
-{
-    let mut moves = sheet.moves;
-    moves[m.index()] = figures;
-    assembled(sheet.present.with(m), moves, sheet.ties)
-}
-
-// The sheet with a tie from i to j.
-pub(super) fn with_tie(sheet: &Sheet, i: MoveNumber, j: MoveNumber) -> Sheet
-    requires { Sound (tied (number i) (number j) (meaning sheet.now)) }
-    ensures { meaning result ≡ tied (number i) (number j) (meaning sheet.now) }
-{
-    let mut ties = sheet.ties;
-    let row = i.index();
-    ties[row] = ties[row].with(j);
-    assembled(sheet.present, sheet.moves, ties)
-}
-
-// The sheet without a tie from i to j.
-pub(super) fn without_tie(sheet: &Sheet, i: MoveNumber, j: MoveNumber) -> Sheet
-    requires { Sound (untied (number i) (number j) (meaning sheet.now)) }
-    ensures { meaning result ≡ untied (number i) (number j) (meaning sheet.now) }
-{
-    let mut ties = sheet.ties;
-    let row = i.index();
-    ties[row] = ties[row].without(j);
-    assembled(sheet.present, sheet.moves, ties)
-}
-
-// The sheet without that move and without every tie at it.
-pub(super) fn without_move(sheet: &Sheet, m: MoveNumber) -> Sheet
-    requires { Sound (struck (number m) (meaning sheet.now)) }
-    ensures { meaning result ≡ struck (number m) (meaning sheet.now) }
-{
-    assembled(
-        sheet.present.without(m),
-        sheet.moves,
-        without_ties(sheet.ties, m),
-    )
-}
-
-// The rows of ties without every tie at that move: its own row is empty and it is in no other.
-fn without_ties(ties: [MoveSet; ROOM], m: MoveNumber) -> [MoveSet; ROOM]
-    ensures { (a b : ℕ) → holds (slice_index_or result a nobody) b ≡ (not (a == number m || b == number m) && holds (slice_index_or ties a nobody) b) }
-{
-    let mut rows = ties;
-    for i in 0..ROOM {
-        rows[i] = row_without(rows[i], i, m);
+impl Sheet {
+    // The sheet with those entries, which keep what every sheet keeps: the one place where a sheet is put together.
+    fn with_entries(entries: [Option<Entry>; ROOM]) -> Sheet
+        requires { Sound (ledger_of entries) }
+        ensures { meaning result ≡ ledger_of entries }
+    {
+        Sheet { entries }
     }
-    rows
-}
 
-// The row of ties from i without every tie at m.
-fn row_without(row: MoveSet, i: usize, m: MoveNumber) -> MoveSet
-    ensures { (b : ℕ) → holds result b ≡ (not (i == number m || b == number m) && holds row b) }
-{
-    if i == m.index() {
-        MoveSet::empty()
-    } else {
-        row.without(m)
+    // The sheet with no move and no tie.
+    pub(super) fn unused() -> Sheet
+        ensures { meaning result ≡ blank }
+    {
+        Sheet::with_entries([None; ROOM])
+    }
+
+    // The sheet with one move more.
+    pub(super) fn with_move(&self, m: MoveNumber, figures: Move) -> Sheet
+        requires free { on (meaning self.now) (number m) ≡ false }
+        requires fit { ranged figures ≡ true }
+        requires short { span_with (meaning self.now) figures ≤ last_tick }
+        ensures { meaning result ≡ entered (number m) figures (meaning self.now) }
+    {
+        let mut entries = self.entries;
+        entries[m.index()] = Some(Entry::untied(figures));
+        Sheet::with_entries(entries)
+    }
+
+    // The sheet with that tie.
+    pub(super) fn with_tie(&self, tie: Tie) -> Sheet
+        requires before { on (meaning self.now) (number tie.before) ≡ true }
+        requires after { on (meaning self.now) (number tie.after) ≡ true }
+        requires open { closes (meaning self.now).tie (number tie.before) (number tie.after) ≡ false }
+        ensures { meaning result ≡ tied (number tie.before) (number tie.after) (meaning self.now) }
+    {
+        let mut entries = self.entries;
+        entries[tie.before.index()] = with_follower(self.entry(tie.before), tie.after);
+        Sheet::with_entries(entries)
+    }
+
+    // The sheet without that tie.
+    pub(super) fn without_tie(&self, tie: Tie) -> Sheet
+        ensures { meaning result ≡ untied (number tie.before) (number tie.after) (meaning self.now) }
+    {
+        let mut entries = self.entries;
+        entries[tie.before.index()] = without_follower(self.entry(tie.before), tie.after);
+        Sheet::with_entries(entries)
+    }
+
+    // The sheet without that move and without every tie at it.
+    pub(super) fn without_move(&self, m: MoveNumber) -> Sheet
+        ensures { meaning result ≡ struck (number m) (meaning self.now) }
+    {
+        Sheet::with_entries(self.entries_without(m))
+    }
+
+    // The entries of the sheet without that move: there is none at its number, and it waits for none of the others.
+    #[tactic(auto, using(crate::proofs::Frees::freeing))]
+    fn entries_without(&self, m: MoveNumber) -> [Option<Entry>; ROOM]
+        ensures { ledger_of result ≡ struck (number m) (meaning self.now) }
+    {
+        let mut entries = self.entries;
+        for place in &mut entries {
+            *place = without_follower(*place, m);
+        }
+        entries[m.index()] = None;
+        entries
     }
 }

@@ -4,53 +4,87 @@ ghost use Rattle.finite.specs.Below.{count};
 ghost use Rattle.moves.specs.Room.{room};
 ghost use Rattle.moves.specs.Number.{number};
 ghost use Rattle.moves.specs.Members.{holds};
-ghost use Rattle.sheet.specs.Ledger.{on};
+ghost use Rattle.sheet.specs.Ledger.{on, figures};
 ghost use Rattle.sheet.specs.Meaning.{meaning};
+ghost use Rattle.sheet.specs.Parts.{entry_at};
 
-use super::{Sheet, reads};
+use super::Sheet;
+use crate::entry::Entry;
 use crate::figures::Move;
 use moves::{MoveNumber, MoveSet};
 
 impl Sheet {
+    // What the sheet has under that number.
+    pub(super) fn entry(&self, m: MoveNumber) -> Option<Entry>
+        ensures { result ≡ entry_at self.now.entries (number m) }
+    {
+        self.entries[m.index()]
+    }
+
     // Whether a move of that number is on the sheet.
     pub fn has(&self, n: u64) -> bool
         ensures { result ≡ on (meaning self.now) n }
     {
-        reads::present(self, n)
+        self.figures(n).is_some()
     }
 
     // The figures of the move of that number, or nothing where it is not on the sheet.
+    #[tactic(auto, using(crate::proofs::Sheets::move_beyond), unfolding(crate::specs::Parts::ledger_of))]
     pub fn figures(&self, n: u64) -> Option<Move>
         ensures { result ≡ (meaning self.now).move n }
     {
-        reads::entry(self, n)
+        let entry = self.entry(MoveNumber::new(n)?)?;
+        Some(entry.figures)
+    }
+
+    // The figures of that move; all 0 where it is not on the sheet.
+    pub fn figures_of(&self, m: MoveNumber) -> Move
+        ensures { result ≡ figures (meaning self.now) (number m) }
+    {
+        self.figures(m.get()).unwrap_or(Move::NOTHING)
     }
 
     // Whether there is a tie from the first to the second.
+    #[tactic(auto, using(crate::proofs::Sheets::tie_beyond))]
     pub fn tied(&self, before: u64, after: u64) -> bool
         ensures { result ≡ (meaning self.now).tie before after }
     {
-        reads::linked(self, before, after)
+        let (Some(i), Some(j)) = (MoveNumber::new(before), MoveNumber::new(after)) else {
+            return false;
+        };
+        self.waiting_for(i).contains(j)
     }
 
     // The moves on the sheet.
+    #[tactic(auto, using(crate::proofs::Gathers::gathering, crate::proofs::Sheets::on_beyond, crate::proofs::Equations::on_of))]
     pub fn moves(&self) -> MoveSet
         ensures { (k : ℕ) → holds result k ≡ on (meaning self.now) k }
     {
-        reads::all(self)
+        let mut present = MoveSet::empty();
+        for m in MoveSet::all().iter() {
+            if self.entry(m).is_some() {
+                present = present.with(m);
+            }
+        }
+        present
     }
 
     // The moves that are tied to that one: they may not run before it is finished.
+    #[tactic(auto, using(crate::proofs::Equations::tie_of))]
     pub fn waiting_for(&self, m: MoveNumber) -> MoveSet
         ensures { (k : ℕ) → holds result k ≡ (meaning self.now).tie (number m) k }
     {
-        reads::row(self, m)
+        match self.entry(m) {
+            Some(entry) => entry.followers,
+            None => MoveSet::empty(),
+        }
     }
 
     // How many moves are on the sheet.
+    #[tactic(auto, using(moves::proofs::Sets::count_as))]
     pub fn count(&self) -> u32
         ensures { result ≡ count room (on (meaning self.now)) }
     {
-        reads::how_many(self)
+        self.moves().count()
     }
 }

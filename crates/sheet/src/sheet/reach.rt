@@ -1,30 +1,33 @@
 // Where chains of ties lead.
-ghost use Rattle.std.specs.Prelude.{◌≡◌, ℕ, ◌||◌, ◌==◌};
+ghost use Rattle.std.specs.Prelude.{◌≡◌, ℕ};
 ghost use Rattle.moves.specs.Number.{number};
 ghost use Rattle.moves.specs.Members.{holds};
-ghost use Rattle.sheet.specs.Chains.{leads};
+ghost use Rattle.sheet.specs.Chains.{leads, closes};
 ghost use Rattle.sheet.specs.Meaning.{meaning};
 
 use super::Sheet;
-use super::reads::{all, row};
+use crate::tie::Tie;
 use moves::{MoveNumber, MoveSet};
 
-// The moves to which ties lead from that one, over one tie or over several.
-fn led_to(sheet: &Sheet, from: MoveNumber) -> MoveSet
-    ensures { (k : ℕ) → holds result k ≡ leads (meaning sheet.now).tie (number from) k }
-{
-    let mut found = row(sheet, from);
-    let mut unseen = all(sheet);
-    while let Some(m) = found.intersection(unseen).lowest() {
-        unseen = unseen.without(m);
-        found = found.union(row(sheet, m));
+impl Sheet {
+    // The moves to which ties lead from that one, over one tie or over several.
+    #[tactic(auto, using(crate::proofs::Reach::searching, moves::proofs::Sets::length_without))]
+    fn led_to(&self, from: MoveNumber) -> MoveSet
+        ensures { (k : ℕ) → holds result k ≡ leads (meaning self.now).tie (number from) k }
+    {
+        let mut found = self.waiting_for(from);
+        let mut unseen = self.moves();
+        while let Some(m) = found.intersection(unseen).lowest() {
+            unseen = unseen.without(m);
+            found = found.union(self.waiting_for(m));
+        }
+        found
     }
-    found
-}
 
-// Whether a tie from i to j would let a chain return: both are one move, or ties already lead from j to i.
-pub(super) fn chain_returns(sheet: &Sheet, i: MoveNumber, j: MoveNumber) -> bool
-    ensures { result ≡ (number i == number j || leads (meaning sheet.now).tie (number j) (number i)) }
-{
-    i.get() == j.get() || led_to(sheet, j).contains(i)
+    // Whether that tie would let a chain return: both are one move, or ties already lead from the second to the first.
+    pub(super) fn chain_returns(&self, tie: Tie) -> bool
+        ensures { result ≡ closes (meaning self.now).tie (number tie.before) (number tie.after) }
+    {
+        tie.before == tie.after || self.led_to(tie.after).contains(tie.before)
+    }
 }

@@ -1,9 +1,0 @@
--- So far it is the sum of the lengths of the moves with lower numbers.
-use Rattle.std.proofs.Common.{◌≡◌}
-use Rattle.finite.specs.Below.{sum}
-use Rattle.sheet.specs.Ledger.{length_of}
-use Rattle.sheet.specs.Meaning.{meaning}
-use Rattle.sheet.proofs.sheet.span.total_length.Given as goal
-
-abbrev pub invariant-loop-n : goal.invariant-loop-n
-invariant-loop-n l = l.total ≡ sum l.n (length_of (meaning l.sheet))
