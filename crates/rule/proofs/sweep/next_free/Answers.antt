@@ -10,8 +10,8 @@ use Rattle.rule.proofs.sweep.next_free.Goals as goal
 pub returns : goal.returns
 returns c =
     cases_map c.lowest.result
-    (none_free (meaning c.args.sheet.now) (sheet_sound c.args.sheet.now) (holds c.args.left) (holds c.held_up.result) (holds c.difference.result) c.held_up.ensures.some c.difference.ensures.held
-    (holds_below c.args.left))
-    (λ m h. free_waits (meaning c.args.sheet.now) (sheet_sound c.args.sheet.now) (holds c.args.left) (holds c.held_up.result) (holds c.difference.result) c.held_up.ensures.some c.difference.ensures.held
-    c.held_up.ensures.all (number m) h.0)
-    c.lowest.ensures.held
+    (λ none. none_free (meaning c.args.sheet.now) (sheet_sound c.args.sheet.now) (holds c.args.left) (holds c.held_up.result) (holds c.difference.result) c.held_up.ensures.some c.difference.ensures.held
+    (holds_below c.args.left) none.held)
+    (λ m first. free_waits (meaning c.args.sheet.now) (sheet_sound c.args.sheet.now) (holds c.args.left) (holds c.held_up.result) (holds c.difference.result) c.held_up.ensures.some c.difference.ensures.held
+    c.held_up.ensures.all (number m) first.held)
+    c.lowest.ensures

@@ -17,7 +17,7 @@ loop-m-init c =
 both : (c : goal.After-union-found) → (holds c.loop-m.found (number c.in-Some.m) ≡ true) × (holds c.loop-m.unseen (number c.in-Some.m) ≡ true)
 both c =
     and_parts (holds c.loop-m.found (number c.in-Some.m)) (holds c.loop-m.unseen (number c.in-Some.m))
-    (sym (c.intersection.ensures.held (number c.in-Some.m)) ∙ c.in-Some.ensures.held.0)
+    (sym (c.intersection.ensures.held (number c.in-Some.m)) ∙ c.in-Some.ensures.held)
 
 pub loop-m-smaller : goal.loop-m-smaller
 loop-m-smaller c =
