@@ -1,5 +1,5 @@
 -- How the code's operations on words change what a set holds: below the room each bit speaks for itself, and beyond it nothing is held.
-use Rattle.std.proofs.Common.{◌≡◌, ℕ, zero, suc, ◌-◌, ◌*◌, ◌/◌, ◌%◌, ◌^◌, ◌<◌, ◌≤◌, min, max, Bool, true, false, cond, not, ◌&&◌, ◌||◌, eqb, ltb, length, sym, refl, ap, ◌∙◌, inl, inr, arith}
+use Rattle.std.proofs.Common.{◌≡◌, ℕ, zero, suc, ◌-◌, ◌*◌, ◌/◌, ◌%◌, ◌^◌, ◌<◌, ◌≤◌, Bool, true, false, cond, not, ◌&&◌, ◌||◌, eqb, ltb, length, sym, refl, ap, ◌∙◌, inl, inr, arith}
 use lib.Bits.{bit_and, bit_or}
 use lib.Count.{ones, ones_step, count_trailing_zeros, trailing_of_zero}
 use Rattle.std.specs.Int.{bit_at, bit_not, w64}
@@ -15,32 +15,19 @@ use Rattle.moves.specs.Members.{holds, members, Holds, HoldsNone, Lowest, nobody
 use Rattle.moves.specs.declared.set.MoveSet.{MoveSet}
 use Rattle.moves.proofs.Sets.{members_are, none_members, count_members, nobody_holds, holds_beyond}
 
--- what a set holds below the room says what it holds and lists
-from_bits : (w : ℕ) (p : ℕ → Bool) → ((k : ℕ) → k < room → eqb (bit_at w k) 1 ≡ p k) → ((k : ℕ) → room ≤ k → p k ≡ false) → Holds (record { word = w }) p
-unfolding holds
-from_bits w p at beyond = record { held = held; listed = members_are (record { word = w }) p held }
-  where
-    held : (k : ℕ) → holds (record { word = w }) k ≡ p k
-    held k = elim (cases_lt k room) [
-      | inl h ↦ rw (lt-ltb k room h) (at k h)
-      | inr h ↦ holds_beyond (record { word = w }) k h ∙ sym (beyond k h)
-    ]
-
 -- a place below the room
 holds_at : (s : MoveSet) (k : ℕ) → k < room → holds s k ≡ eqb (bit_at s.word k) 1
 unfolding holds
 holds_at s k below = rw (lt-ltb k room below)
 
+-- what a set holds below the room says what it holds and lists
+from_bits : (w : ℕ) (p : ℕ → Bool) → ((k : ℕ) → k < room → eqb (bit_at w k) 1 ≡ p k) → ((k : ℕ) → room ≤ k → p k ≡ false) → Holds (record { word = w }) p
+from_bits w p at beyond = record { held = held; listed = members_are (record { word = w }) p held }
+  where
+    held : (k : ℕ) → holds (record { word = w }) k ≡ p k
+    held k = elim (cases_lt k room) [ inl h ↦ holds_at _ k h ∙ at k h | inr h ↦ holds_beyond _ k h ∙ sym (beyond k h) ]
+
 -- ---- each operation on words: the first part says nothing, it shows `grind` the call to match
-
-one_of : (x y : ℕ) → x < 2 → y < 2 → eqb (max x y) 1 ≡ (eqb x 1 || eqb y 1)
-one_of x y p q = grind (arith, nat_tests)
-
-both_of : (x y : ℕ) → x < 2 → y < 2 → eqb (min x y) 1 ≡ (eqb x 1 && eqb y 1)
-both_of x y p q = grind (arith, nat_tests)
-
-first_alone : (x y : ℕ) → x < 2 → y < 2 → eqb (min x (1 - y)) 1 ≡ (eqb x 1 && not (eqb y 1))
-first_alone x y p q = grind (arith, nat_tests)
 
 abbrev set_of : ℕ → MoveSet
 set_of w = record { word = w }
@@ -49,7 +36,7 @@ pub or_holds : (a b : ℕ) → (bit_or a b ≡ bit_or a b) × Holds (set_of (bit
 or_holds a b = (
   refl,
   from_bits _ _
-      (λ k h. rw (holds_at (set_of a) k h, holds_at (set_of b) k h, bit_at_or a b k) (one_of _ _ (bit_at-lt a k) (bit_at-lt b k)))
+      (λ k h. grind (arith, nat_tests, holds_at, bit_at_or a b k, bit_at-lt))
       (λ k h. rw (holds_beyond (set_of a) k h, holds_beyond (set_of b) k h)),
 )
 
@@ -57,7 +44,7 @@ pub and_holds : (a b : ℕ) → (bit_and a b ≡ bit_and a b) × Holds (set_of (
 and_holds a b = (
   refl,
   from_bits _ _
-      (λ k h. rw (holds_at (set_of a) k h, holds_at (set_of b) k h, bit_at_and a b k) (both_of _ _ (bit_at-lt a k) (bit_at-lt b k)))
+      (λ k h. grind (arith, nat_tests, holds_at, bit_at_and a b k, bit_at-lt))
       (λ k h. rw (holds_beyond (set_of a) k h)),
 )
 
@@ -66,7 +53,7 @@ pub minus_holds : (a b : ℕ) → b < 2 ^ room
 minus_holds a b fits = (
   refl,
   from_bits _ _
-      (λ k h. rw (holds_at (set_of a) k h, holds_at (set_of b) k h, bit_at_and a (bit_not w64 b) k, bit_at_not w64 b k fits h) (first_alone _ _ (bit_at-lt a k) (bit_at-lt b k)))
+      (λ k h. grind (arith, nat_tests, holds_at, bit_at_and a (bit_not w64 b) k, bit_at_not w64 b k fits h, bit_at-lt))
       (λ k h. rw (holds_beyond (set_of a) k h)),
 )
 
@@ -76,10 +63,10 @@ with_holds a i below = (
   refl,
   from_bits _ _
       (λ k h. elim (cases_eq k i) [
-        | inl same ↦ rw (eq-eqb k i same, same) (ap (λ x. eqb x 1) (bit_at_set_same w64 a i below))
-        | inr other ↦ rw (ne_eqb k i other, holds_at (set_of a) k h) (ap (λ x. eqb x 1) (bit_at_set_other w64 a i below k other))
+        | inl same ↦ rw (eq-eqb k i same, same, bit_at_set_same w64 a i below)
+        | inr other ↦ rw (ne_eqb k i other, holds_at (set_of a) k h, bit_at_set_other w64 a i below k other)
       ])
-      (λ k h. rw (ne_eqb k i (λ e. omega arith), holds_beyond (set_of a) k h)),
+      (λ k h. grind (arith, nat_tests, holds_beyond (set_of a) k h)),
 )
 
 pub without_holds : (a i : ℕ) → i < room
@@ -89,20 +76,20 @@ without_holds a i below = (
   refl,
   from_bits _ _
       (λ k h. elim (cases_eq k i) [
-        | inl same ↦ rw (eq-eqb k i same, same) (ap (λ x. eqb x 1) (bit_at_clear_same w64 a i below))
-        | inr other ↦ rw (ne_eqb k i other, holds_at (set_of a) k h) (ap (λ x. eqb x 1) (bit_at_clear_other w64 a i below k h other))
+        | inl same ↦ rw (eq-eqb k i same, same, bit_at_clear_same w64 a i below)
+        | inr other ↦ rw (ne_eqb k i other, holds_at (set_of a) k h, bit_at_clear_other w64 a i below k h other)
       ])
-      (λ k h. rw (ne_eqb k i (λ e. omega arith), holds_beyond (set_of a) k h)),
+      (λ k h. grind (arith, nat_tests, holds_beyond (set_of a) k h)),
 )
 
 pub none_holds : HoldsNone (set_of 0)
 none_holds = record { held = nobody_holds; listed = none_members nobody nobody_holds }
 
 pub all_holds : Holds (set_of (2 ^ room - 1)) (λ k. ltb k room)
-all_holds = from_bits _ _ (λ k h. rw (lt-ltb k room h) (ap (λ x. eqb x 1) (bit_at_ones room k h))) (λ k h. le-ltb k room h)
+all_holds = from_bits _ _ (λ k h. rw (lt-ltb k room h, bit_at_ones room k h)) (λ k h. le-ltb k room h)
 
 pub bit_tested : (w i : ℕ) → i < room → eqb (bit_and (w / 2 ^ i) 1) 1 ≡ holds (set_of w) i
-bit_tested w i below = ap (λ x. eqb x 1) (shr_and_one w i) ∙ sym (holds_at (set_of w) i below)
+bit_tested w i below = rw (shr_and_one w i, holds_at (set_of w) i below)
 
 -- ---- counts
 
@@ -148,7 +135,7 @@ some_lowest s fits low = (refl, record { held = held; below = below; listed = ri
     ]
 
     held : holds s (count_trailing_zeros room s.word) ≡ true
-    held = holds_at s _ low ∙ ap (λ x. eqb x 1) (bit_at-trailing_zeros w64 s.word some fits).1
+    held = rw (holds_at s _ low, (bit_at-trailing_zeros w64 s.word some fits).1)
 
     below : (k : ℕ) → k < count_trailing_zeros room s.word → holds s k ≡ false
-    below k h = holds_at s k (omega arith) ∙ ap (λ x. eqb x 1) ((bit_at-trailing_zeros w64 s.word some fits).2 k h)
+    below k h = rw (holds_at s k (omega arith), (bit_at-trailing_zeros w64 s.word some fits).2 k h)

@@ -1,8 +1,8 @@
 -- What a set of moves means: which numbers it holds, and the rising list of them.
 -- Nothing outside this crate looks at the word of a set.
-use Rattle.std.specs.Prelude.{◌≡◌, ℕ, ◌<◌, Bool, true, false, not, ◌&&◌, List, [], ◌∷◌, length, ◌==◌, nat_lt, slice_index_or}
+use Rattle.std.specs.Prelude.{◌≡◌, ℕ, ◌<◌, Bool, true, false, not, ◌&&◌, List, [], ◌∷◌, ◌==◌, nat_lt}
 use Rattle.std.specs.Int.{bit_at}
-use Rattle.std.specs.List.{ContainsAt as Has}
+use Rattle.std.specs.List.{AllPairs, Contains}
 use Rattle.finite.specs.Below.{rising}
 use Rattle.moves.specs.Room.{room}
 use Rattle.moves.specs.declared.set.MoveSet.{MoveSet}
@@ -34,11 +34,11 @@ pub record Lowest (s : MoveSet) (n : ℕ) : Type 0 where
 -- the list is what it should be
 pub record Listed (s : MoveSet) : Type 0 where
   -- each number on it is in the set
-  pub held : (k : ℕ) → Has (members s) k → holds s k ≡ true
+  pub held : (k : ℕ) → Contains (members s) k → holds s k ≡ true
   -- each number of the set is on it
-  pub all : (k : ℕ) → holds s k ≡ true → Has (members s) k
+  pub all : (k : ℕ) → holds s k ≡ true → Contains (members s) k
   -- and of two places the later has the higher number
-  pub rises : (a b d : ℕ) → a < b → b < length (members s) → slice_index_or (members s) a d < slice_index_or (members s) b d
+  pub rises : AllPairs (λ a b. a < b) (members s)
 
 -- the set of no moves
 abbrev pub nobody : MoveSet

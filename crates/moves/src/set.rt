@@ -96,7 +96,7 @@ impl MoveSet {
     }
 
     // How many moves are in the set.
-    #[tactic(auto, using(crate::proofs::Words::length_ones, crate::proofs::Sets::members_law))]
+    #[tactic(auto, using(crate::proofs::Words::length_ones))]
     pub fn count(self) -> u32
         ensures many { result ≡ length (members self) }
         ensures list { Listed self }
