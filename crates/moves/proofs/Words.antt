@@ -27,8 +27,9 @@ from_bits w p at beyond = record { held = held; listed = members_are (record { w
     held : (k : ℕ) → holds (record { word = w }) k ≡ p k
     held k = elim (cases_lt k room) [ inl h ↦ holds_at _ k h ∙ at k h | inr h ↦ holds_beyond _ k h ∙ sym (beyond k h) ]
 
--- ---- each operation on words: the first part says nothing, it shows `grind` the call to match
+-- ---- each operation on words, and what the set of its answer holds: the first part says nothing, it shows `grind` the call to match
 
+-- the set that has that word
 abbrev set_of : ℕ → MoveSet
 set_of w = record { word = w }
 
@@ -48,6 +49,7 @@ and_holds a b = (
       (λ k h. rw (holds_beyond (set_of a) k h)),
 )
 
+-- what b has is masked out of a
 pub minus_holds : (a b : ℕ) → b < 2 ^ room
     → (bit_and a (bit_not w64 b) ≡ bit_and a (bit_not w64 b)) × Holds (set_of (bit_and a (bit_not w64 b))) (λ k. holds (set_of a) k && not (holds (set_of b) k))
 minus_holds a b fits = (
@@ -57,6 +59,7 @@ minus_holds a b fits = (
       (λ k h. rw (holds_beyond (set_of a) k h)),
 )
 
+-- the bit of move i is made 1
 pub with_holds : (a i : ℕ) → i < room
     → (bit_or a (1 * 2 ^ i % 2 ^ room) ≡ bit_or a (1 * 2 ^ i % 2 ^ room)) × Holds (set_of (bit_or a (1 * 2 ^ i % 2 ^ room))) (λ k. eqb k i || holds (set_of a) k)
 with_holds a i below = (
@@ -69,6 +72,7 @@ with_holds a i below = (
       (λ k h. grind (arith, nat_tests, holds_beyond (set_of a) k h)),
 )
 
+-- the bit of move i is made 0
 pub without_holds : (a i : ℕ) → i < room
     → (bit_and a (bit_not w64 (1 * 2 ^ i % 2 ^ room)) ≡ bit_and a (bit_not w64 (1 * 2 ^ i % 2 ^ room)))
     × Holds (set_of (bit_and a (bit_not w64 (1 * 2 ^ i % 2 ^ room)))) (λ k. not (eqb k i) && holds (set_of a) k)
@@ -88,11 +92,13 @@ none_holds = record { held = nobody_holds; listed = none_members nobody nobody_h
 pub all_holds : Holds (set_of (2 ^ room - 1)) (λ k. ltb k room)
 all_holds = from_bits _ _ (λ k h. rw (lt-ltb k room h, bit_at_ones room k h)) (λ k h. le-ltb k room h)
 
+-- a shift brings the bit to the lowest place, and the mask keeps it alone
 pub bit_tested : (w i : ℕ) → i < room → eqb (bit_and (w / 2 ^ i) 1) 1 ≡ holds (set_of w) i
 bit_tested w i below = rw (shr_and_one w i, holds_at (set_of w) i below)
 
 -- ---- counts
 
+-- each bit that is 1 counts once
 ones_count : (k n : ℕ) → n < 2 ^ k → ones n ≡ count k (λ i. eqb (bit_at n i) 1)
 unfolding count sum ones
 ones_count zero n h = ap ones (let e : n ≡ 0 = omega arith in e)
