@@ -1,8 +1,9 @@
 -- The greatest of the values below a bound, and the number at which a value is least: inductions that split off the last number.
-use Rattle.std.proofs.Common.{◌≡◌, ℕ, zero, suc, ◌+◌, ◌<◌, ◌≤◌, max, Bool, true, false, ◌⊎◌, sym, refl, ap, ◌∙◌, subst, inl, inr, le_antisymm, add-one, arith}
-use Rattle.finite.specs.Below.{greatest}
+use Rattle.std.proofs.Common.{◌≡◌, ℕ, zero, suc, ◌+◌, ◌<◌, ◌≤◌, max, Bool, true, false, ◌&&◌, ltb, ◌⊎◌, refl, ap, inl, inr, le_antisymm, add-one, arith}
+use Rattle.finite.specs.Below.{any, greatest}
+use Rattle.finite.proofs.Some.{any_some, any_from}
 use Rattle.finite.proofs.Sums.{last_or_below}
-use Rattle.std.proofs.lemmas.Bool.{both_ways, cases_Bool, cases_eq, cases_lt}
+use Rattle.std.proofs.lemmas.Bool.{and_from, and_parts, both_ways, cases_Bool, cases_eq, cases_lt, lt-ltb, ltb-true}
 
 pub greatest_zero : (f : ℕ → ℕ) → greatest 0 f ≡ 0
 unfolding greatest
@@ -71,56 +72,31 @@ greatest_is (suc n) f = greatest_is_step n f (greatest_is n f)
 abbrev LeastAt : ℕ → (ℕ → Bool) → (ℕ → ℕ) → ℕ → Type 0
 LeastAt n p f m = (m < n) × (p m ≡ true) × ((k : ℕ) → k < n → p k ≡ true → f m ≤ f k)
 
--- the last number joins those among which f is least at m
-least_join : (n : ℕ) (p : ℕ → Bool) (f : ℕ → ℕ) (m : ℕ) → LeastAt n p f m → (p n ≡ true → f m ≤ f n) → LeastAt (suc n) p f m
-least_join n p f m least h = (
-  omega arith,
-  least.1,
-  λ k l e. elim (last_or_below k n l) [
-    | inl same ↦ subst (λ x. f m ≤ f x) (sym same) (h (subst (λ x. p x ≡ true) same e))
-    | inr below ↦ least.2 k below e
-  ],
-)
+-- from k, on to a number with a lower value as long as there is one: v such steps are enough
+least_from : (v n : ℕ) (p : ℕ → Bool) (f : ℕ → ℕ) (k : ℕ) → f k ≤ v → k < n → p k ≡ true → (m : ℕ) × LeastAt n p f m
+least_from zero n p f k most l e = (k, (l, e, λ i _ _. omega arith))
+least_from (suc v) n p f k most l e = by (least_from v n p f) (cases_Bool (any n lower))
+  where
+    lower : ℕ → Bool
+    lower i = p i && ltb (f i) (f k)
 
--- the last number takes the place of those that pass, where f is no more at it than at any of them
-least_last : (n : ℕ) (p : ℕ → Bool) (f : ℕ → ℕ) → p n ≡ true → ((k : ℕ) → k < n → p k ≡ true → f n ≤ f k) → LeastAt (suc n) p f n
-least_last n p f passes h = (
-  omega arith,
-  passes,
-  λ k l e. elim (last_or_below k n l) [
-    | inl same ↦ omega (arith, ap f same)
-    | inr below ↦ h k below e
-  ],
-)
+    nowhere : any n lower ≡ false → (i : ℕ) → i < n → p i ≡ true → f k ≤ f i
+    nowhere none i b q =
+        elim (cases_lt (f i) (f k)) [
+          | inl less ↦ absurd (both_ways (any n lower) none (any_from n lower i b (and_from (p i) (ltb (f i) (f k)) q (lt-ltb (f i) (f k) less))))
+          | inr more ↦ more
+        ]
 
--- none of the first n + 1 numbers passes, or f is least at one of them, from the same of the first n
-least_step : (n : ℕ) (p : ℕ → Bool) (f : ℕ → ℕ) → ((k : ℕ) → k < n → p k ≡ false) ⊎ ((m : ℕ) × LeastAt n p f m) → ((k : ℕ) → k < suc n → p k ≡ false) ⊎ ((m : ℕ) × LeastAt (suc n) p f m)
-least_step n p f (inl none) =
-    elim (cases_Bool (p n)) [
-      | inl passes ↦ inr (n, least_last n p f passes (λ k l e. absurd (both_ways (p k) (none k l) e)))
-      | inr fails ↦ inl (λ k l. elim (last_or_below k n l) [ inl same ↦ ap p same ∙ fails | inr below ↦ none k below ])
-    ]
-least_step n p f (inr t) =
-    elim (cases_lt (f n) (f t.0)) [
-      | inl less ↦ elim (cases_Bool (p n)) [
-        | inl passes ↦ inr (n, least_last n p f passes (λ k l e. omega (arith, t.1.2 k l e)))
-        | inr fails ↦ inr (t.0, least_join n p f t.0 t.1 (λ e. absurd (both_ways (p n) fails e)))
-      ]
-      | inr more ↦ inr (t.0, least_join n p f t.0 t.1 (λ _. more))
-    ]
-
--- none of the numbers below n passes, or f is least at one that does
-least_or_none : (n : ℕ) (p : ℕ → Bool) (f : ℕ → ℕ) → ((k : ℕ) → k < n → p k ≡ false) ⊎ ((m : ℕ) × LeastAt n p f m)
-least_or_none zero p f = inl (λ k l. absurd (omega arith))
-least_or_none (suc n) p f = least_step n p f (least_or_none n p f)
+    by : ((i : ℕ) → f i ≤ v → i < n → p i ≡ true → (m : ℕ) × LeastAt n p f m) → (any n lower ≡ true) ⊎ (any n lower ≡ false) → (m : ℕ) × LeastAt n p f m
+    by on (inl found) =
+        let t = any_some n lower found in
+        let parts = and_parts (p t.0) (ltb (f t.0) (f k)) t.2 in
+        on t.0 (omega (arith, ltb-true (f t.0) (f k) parts.1)) t.1 parts.0
+    by on (inr none) = (k, (l, e, nowhere none))
 
 -- where some number below n passes, f is least at one that does
 pub least_at : (n : ℕ) (p : ℕ → Bool) (f : ℕ → ℕ) (k : ℕ) → k < n → p k ≡ true → (m : ℕ) × (m < n) × (p m ≡ true) × ((i : ℕ) → i < n → p i ≡ true → f m ≤ f i)
-least_at n p f k l e =
-    elim (least_or_none n p f) [
-      | inl none ↦ absurd (both_ways (p k) (none k l) e)
-      | inr t ↦ (t.0, t.1.0, t.1.1, t.1.2)
-    ]
+least_at n p f k l e = let t = least_from (f k) n p f k (omega arith) l e in (t.0, t.1.0, t.1.1, t.1.2)
 
 -- how a greatest value grows with its bound
 pub ruleset growing_greatest = (greatest_zero, greatest_next)

@@ -2,11 +2,12 @@
 use Rattle.std.proofs.Common.{◌≡◌, ℕ, zero, suc, ◌+◌, ◌<◌, ◌≤◌, Bool, true, false, cond, not, ◌&&◌, eqb, ◌⊎◌, refl, ap, subst, inl, inr, le_antisymm, add-one, arith}
 use Rattle.finite.specs.Below.{sum, count, any}
 use Rattle.finite.proofs.Some.{any_some, any_from}
-use Rattle.std.proofs.lemmas.Bool.{and_from, and_parts, both_ways, cases_Bool, cases_lt, cases_order, cond-true, cond-false, eq-eqb, ne_eqb, not_from_false, not-true}
+use Rattle.std.proofs.lemmas.Bool.Decides.{nat_tests}
+use Rattle.std.proofs.lemmas.Bool.{and_from, and_parts, both_ways, cases_Bool, cases_lt, cond-true, cond-false, ne_eqb, not_from_false, not-true}
 
 -- a number up to n is n or below n
 pub last_or_below : (k n : ℕ) → k < suc n → (k ≡ n) ⊎ (k < n)
-last_or_below k n h = elim (cases_order k n) [ inl e ↦ inl e | inr s ↦ elim s [ inl l ↦ inr l | inr g ↦ absurd (omega arith) ] ]
+last_or_below k n h = grind arith
 
 -- one number more
 pub sum_empty : (f : ℕ → ℕ) → sum 0 f ≡ 0
@@ -65,8 +66,7 @@ sum_first (suc n) f = omega (arith, sum_first n f)
 
 -- a term that counts only where a test passes is no less under a test that passes more often
 cond_within : (b c : Bool) (x : ℕ) → (b ≡ true → c ≡ true) → cond b x 0 ≤ cond c x 0
-cond_within true c x h = omega (arith, cond-true c x 0 (h refl))
-cond_within false c x h = omega arith
+cond_within b c x h = grind arith
 
 -- the sum over fewer numbers is no more
 pub sum_within : (n : ℕ) (f : ℕ → ℕ) (p q : ℕ → Bool) → ((k : ℕ) → k < n → p k ≡ true → q k ≡ true) → sum n (λ k. cond (p k) (f k) 0) ≤ sum n (λ k. cond (q k) (f k) 0)
@@ -94,7 +94,7 @@ count_less n p q m h l without has = omega (arith, sum_without n (λ _. 1) p q m
 pub count_one_less : (n j : ℕ) (p : ℕ → Bool) → j < n → p j ≡ true → count n p ≡ suc (count n (λ k. not (eqb k j) && p k))
 unfolding count
 count_one_less n j p h has =
-    omega (arith, sum_raised n (λ k. cond (not (eqb k j) && p k) 1 0) (λ k. cond (p k) 1 0) j 1 h (rw (eq-eqb j j refl, has)) (λ k ne. rw (ne_eqb k j ne)))
+    omega (arith, sum_raised n (λ k. cond (not (eqb k j) && p k) 1 0) (λ k. cond (p k) 1 0) j 1 h (grind (arith, nat_tests)) (λ k ne. rw (ne_eqb k j ne)))
 
 -- where p passes only what q does, q passes no more, or more in count
 pub count_same_or_less : (n : ℕ) (p q : ℕ → Bool) → ((k : ℕ) → k < n → p k ≡ true → q k ≡ true) → ((k : ℕ) → k < n → q k ≡ true → p k ≡ true) ⊎ (count n p < count n q)

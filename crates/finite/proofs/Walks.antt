@@ -1,17 +1,15 @@
 -- A walk over some of the numbers below a bound, one after another: what was added up or compared so far is that of the numbers that are not in the rest.
-use Rattle.std.proofs.Common.{◌≡◌, ℕ, ◌+◌, ◌<◌, ◌≤◌, max, Bool, true, false, cond, not, ◌&&◌, eqb, ◌⊎◌, sym, refl, ap, ◌∙◌, inl, inr, arith}
+use Rattle.std.proofs.Common.{◌≡◌, ℕ, ◌+◌, ◌<◌, ◌≤◌, max, Bool, true, false, cond, not, ◌&&◌, eqb, ◌⊎◌, ◌∙◌, arith}
 use Rattle.finite.specs.Below.{sum, greatest}
 use Rattle.finite.proofs.Greatest.{greatest_ext, greatest_least, greatest_put}
 use Rattle.finite.proofs.Sums.{sum_ext, sum_raised, sum_zero}
-use Rattle.std.proofs.lemmas.Bool.{and_cases, cond_both, cond-true, cond-false, eq-eqb, eqb-true, ne_eqb, not-false}
+use Rattle.std.proofs.lemmas.Bool.Decides.{nat_tests}
+use Rattle.std.proofs.lemmas.Bool.{cond-true}
 
 -- where the rest lacks a number after one was passed, it lacked it already or the number is that one
 pub lacks : (rest rest' : ℕ → Bool) (m k : ℕ) → ((k : ℕ) → rest' k ≡ (not (eqb k m) && rest k)) → rest' k ≡ false → (k ≡ m) ⊎ (rest k ≡ false)
 lacks rest rest' m k less h =
-    elim (and_cases (not (eqb k m)) (rest k) (sym (less k) ∙ h)) [
-      | inl e ↦ inl (eqb-true k m (not-false (eqb k m) e))
-      | inr f ↦ inr f
-    ]
+    grind (arith, nat_tests, less k)
 
 -- the value of f at a number that the walk has passed, and 0 at one that is still in the rest
 abbrev pub passed : (ℕ → Bool) → (ℕ → ℕ) → ℕ → ℕ
@@ -20,7 +18,7 @@ passed rest f k = cond (rest k) 0 (f k)
 module _ (n : ℕ) (f : ℕ → ℕ) (rest : ℕ → Bool) where
   -- where f is 0 outside the rest, nothing was passed yet
   begins : ((k : ℕ) → rest k ≡ false → f k ≡ 0) → (k : ℕ) → passed rest f k ≡ 0
-  begins h k = cond_both (rest k) 0 (f k) (λ x. x ≡ 0) (λ _. refl) (h k)
+  begins h k = grind (arith, h k)
 
   pub sum_begins : ((k : ℕ) → rest k ≡ false → f k ≡ 0) → sum n (passed rest f) ≡ 0
   sum_begins h = sum_ext n (passed rest f) (λ _. 0) (λ k _. begins h k) ∙ sum_zero n
@@ -30,7 +28,7 @@ module _ (n : ℕ) (f : ℕ → ℕ) (rest : ℕ → Bool) where
 
   -- where nothing is in the rest, everything was passed
   ends : ((k : ℕ) → rest k ≡ false) → (k : ℕ) → passed rest f k ≡ f k
-  ends h k = cond-false (rest k) 0 (f k) (h k)
+  ends h k = grind (arith, h k)
 
   pub sum_ends : ((k : ℕ) → rest k ≡ false) → sum n (passed rest f) ≡ sum n f
   sum_ends h = sum_ext n (passed rest f) f (λ k _. ends h k)
@@ -41,10 +39,10 @@ module _ (n : ℕ) (f : ℕ → ℕ) (rest : ℕ → Bool) where
   -- one number more is passed
   module _ (i : ℕ) (rest' : ℕ → Bool) (low : i < n) (has : rest i ≡ true) (less : (k : ℕ) → rest' k ≡ (not (eqb k i) && rest k)) where
     here : passed rest' f i ≡ f i
-    here = cond-false (rest' i) 0 (f i) (less i ∙ ap (λ b. not b && rest i) (eq-eqb i i refl))
+    here = grind (arith, nat_tests, less i)
 
     elsewhere : (k : ℕ) → (k ≡ i → ⊥) → passed rest' f k ≡ passed rest f k
-    elsewhere k ne = ap (λ b. cond b 0 (f k)) (less k ∙ ap (λ b. not b && rest k) (ne_eqb k i ne))
+    elsewhere k ne = grind (arith, nat_tests, less k)
 
     pub sum_passes : sum n (passed rest' f) ≡ sum n (passed rest f) + f i
     sum_passes = sum_raised n (passed rest f) (passed rest' f) i (f i) low (omega (arith, here, cond-true (rest i) 0 (f i) has)) elsewhere

@@ -1,5 +1,6 @@
 -- Numbers below a bound: what is summed, looked for, compared and listed over 0, 1, …, n - 1.
-use Rattle.std.specs.Prelude.{ℕ, zero, suc, ◌+◌, max, Bool, false, cond, ◌||◌, List, [], ◌∷◌}
+use Rattle.std.specs.Prelude.{ℕ, zero, suc, ◌+◌, max, Bool, false, cond, ◌||◌, List}
+use Rattle.std.specs.List.{filter, range_with_len}
 
 -- f 0 + f 1 + … + f (n - 1)
 unfoldable pub sum : ℕ → (ℕ → ℕ) → ℕ
@@ -20,11 +21,6 @@ any (suc n) p = p n || any n p
 unfoldable pub count : ℕ → (ℕ → Bool) → ℕ
 count n p = sum n (λ k. cond (p k) 1 0)
 
--- the numbers i, i + 1, …, i + n - 1 that have p, in rising order
-unfoldable pub rising_from : ℕ → ℕ → (ℕ → Bool) → List ℕ
-rising_from i zero p = []
-rising_from i (suc n) p = cond (p i) (i ∷ rising_from (suc i) n p) (rising_from (suc i) n p)
-
 -- the numbers below n that have p, in rising order
 unfoldable pub rising : ℕ → (ℕ → Bool) → List ℕ
-rising n p = rising_from 0 n p
+rising n p = filter p (range_with_len 0 n)

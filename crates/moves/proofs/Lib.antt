@@ -1,3 +1,2 @@
-mod Digits
-mod Words
+pub mod Words
 pub mod Sets

@@ -1,5 +1,4 @@
 pub mod Room
 pub mod Number
 pub mod Members
-pub mod Words
 pub mod Walk

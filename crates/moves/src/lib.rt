@@ -5,7 +5,6 @@
 mod number;
 mod set;
 mod walk;
-mod word;
 
 pub use number::{MoveNumber, ROOM};
 pub use set::MoveSet;

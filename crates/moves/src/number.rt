@@ -27,7 +27,7 @@ impl MoveNumber {
     pub fn get(self) -> u64
         ensures { result ≡ self.value }
     {
-        self.value as u64
+        u64::from(self.value)
     }
 
     // The number as a place in a table with a place for each number.
@@ -35,6 +35,6 @@ impl MoveNumber {
         ensures place { result ≡ self.value }
         ensures within { result < room }
     {
-        self.value as usize
+        usize::from(self.value)
     }
 }

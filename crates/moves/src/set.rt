@@ -1,13 +1,11 @@
 // A set of moves: one word, with a bit for each number.
-ghost use Rattle.std.specs.Prelude.{◌≡◌, ℕ, ◌<◌, true, false, not, ◌&&◌, ◌||◌, [], ◌∷◌, length, Decides, MatchOption, ◌==◌, nat_lt};
-ghost use Rattle.finite.specs.Below.{rising};
+ghost use Rattle.std.specs.Prelude.{◌≡◌, ℕ, ◌<◌, true, not, ◌&&◌, ◌||◌, length, Decides, MatchOption, ◌==◌, nat_lt};
 ghost use Rattle.moves.specs.Room.{room};
 ghost use Rattle.moves.specs.Number.{number};
-ghost use Rattle.moves.specs.Members.{holds, members, Listed};
+ghost use Rattle.moves.specs.Members.{holds, members, Holds, HoldsNone, Listed, Lowest};
 ghost use Rattle.moves.specs.Walk.{Step};
 
 use crate::number::MoveNumber;
-use crate::word;
 
 #[derive(Clone, Copy, PartialEq, Eq)]
 pub struct MoveSet {
@@ -16,90 +14,94 @@ pub struct MoveSet {
 
 impl MoveSet {
     // The set of no moves.
+    #[tactic(auto, using(crate::proofs::Words::none_holds))]
     pub fn empty() -> MoveSet
-        ensures held { (k : ℕ) → holds result k ≡ false }
-        ensures listed { members result ≡ [] }
+        ensures { HoldsNone result }
     {
-        MoveSet { word: word::none() }
+        MoveSet { word: 0 }
     }
 
     // The set of every move number.
+    #[tactic(auto, using(crate::proofs::Words::all_holds))]
     pub fn all() -> MoveSet
-        ensures { (k : ℕ) → holds result k ≡ nat_lt k room }
+        ensures { Holds result (λ k. nat_lt k room) }
     {
-        MoveSet { word: word::every() }
+        MoveSet { word: u64::MAX }
     }
 
     // Whether the move is in the set.
+    #[tactic(auto, using(crate::proofs::Words::bit_tested))]
     pub fn contains(self, m: MoveNumber) -> bool
         ensures { result ≡ holds self (number m) }
     {
-        word::has(self.word, m)
+        (self.word >> m.index()) & 1 == 1
     }
 
     // The set with that move in it, whether or not it was there.
+    #[tactic(auto, using(crate::proofs::Words::with_holds))]
     pub fn with(self, m: MoveNumber) -> MoveSet
-        ensures held { (k : ℕ) → holds result k ≡ (k == number m || holds self k) }
-        ensures listed { members result ≡ rising room (λ k. (k == number m) || holds self k) }
+        ensures { Holds result (λ k. (k == number m) || holds self k) }
     {
         MoveSet {
-            word: word::including(self.word, m),
+            word: self.word | (1 << m.index()),
         }
     }
 
     // The set without that move, whether or not it was there.
+    #[tactic(auto, using(crate::proofs::Words::without_holds))]
     pub fn without(self, m: MoveNumber) -> MoveSet
-        ensures held { (k : ℕ) → holds result k ≡ (not (k == number m) && holds self k) }
-        ensures listed { members result ≡ rising room (λ k. not (k == number m) && holds self k) }
+        ensures { Holds result (λ k. not (k == number m) && holds self k) }
     {
         MoveSet {
-            word: word::excluding(self.word, m),
+            word: self.word & !(1 << m.index()),
         }
     }
 
     // The moves that are in one of the two sets or in both.
+    #[tactic(auto, using(crate::proofs::Words::or_holds))]
     pub fn union(self, other: MoveSet) -> MoveSet
-        ensures held { (k : ℕ) → holds result k ≡ (holds self k || holds other k) }
-        ensures listed { members result ≡ rising room (λ k. holds self k || holds other k) }
+        ensures { Holds result (λ k. holds self k || holds other k) }
     {
         MoveSet {
-            word: word::either(self.word, other.word),
+            word: self.word | other.word,
         }
     }
 
     // The moves that are in both sets.
+    #[tactic(auto, using(crate::proofs::Words::and_holds))]
     pub fn intersection(self, other: MoveSet) -> MoveSet
-        ensures held { (k : ℕ) → holds result k ≡ (holds self k && holds other k) }
-        ensures listed { members result ≡ rising room (λ k. holds self k && holds other k) }
+        ensures { Holds result (λ k. holds self k && holds other k) }
     {
         MoveSet {
-            word: word::both(self.word, other.word),
+            word: self.word & other.word,
         }
     }
 
     // The moves of this set that are not in the other.
+    #[tactic(auto, using(crate::proofs::Words::minus_holds))]
     pub fn difference(self, other: MoveSet) -> MoveSet
-        ensures held { (k : ℕ) → holds result k ≡ (holds self k && not (holds other k)) }
-        ensures listed { members result ≡ rising room (λ k. holds self k && not (holds other k)) }
+        ensures { Holds result (λ k. holds self k && not (holds other k)) }
     {
         MoveSet {
-            word: word::minus(self.word, other.word),
+            word: self.word & !other.word,
         }
     }
 
     // Whether each move of this set is in the other.
+    #[tactic(auto, using(crate::proofs::Sets::none_or_some))]
     pub fn is_subset(self, other: MoveSet) -> bool
         ensures { Decides result ((k : ℕ) → holds self k ≡ true → holds other k ≡ true) }
     {
-        word::within(self.word, other.word)
+        self.difference(other).is_empty()
     }
 
     // How many moves are in the set.
+    #[tactic(auto, using(crate::proofs::Words::length_ones))]
     pub fn count(self) -> u32
         ensures many { result ≡ length (members self) }
         ensures list { Listed self }
     {
-        word::ones(self.word)
+        self.word.count_ones()
     }
 
     // Whether no move is in the set.
@@ -109,12 +111,12 @@ impl MoveSet {
         self.count() == 0
     }
 
-    // The move with the lowest number in the set.
+    // The move with the lowest number in the set. A word with no bit has 64 zeros at its low end, and no move has that number.
+    #[tactic(auto, using(crate::proofs::Words::none_lowest, crate::proofs::Words::some_lowest))]
     pub fn lowest(self) -> Option<MoveNumber>
-        ensures listed { MatchOption result (members self ≡ []) (λ m. members self ≡ number m ∷ rising room (λ k. not (k == number m) && holds self k)) }
-        ensures held { MatchOption result ((k : ℕ) → holds self k ≡ false) (λ m. (holds self (number m) ≡ true) × ((k : ℕ) → k < number m → holds self k ≡ false)) }
+        ensures { MatchOption result (HoldsNone self) (λ m. Lowest self (number m)) }
     {
-        word::first(self.word)
+        MoveNumber::new(u64::from(self.word.trailing_zeros()))
     }
 
     // Takes the move with the lowest number out of the set.

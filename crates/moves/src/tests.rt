@@ -4,10 +4,7 @@ use crate::set::MoveSet;
 use std::test::Fail;
 
 fn number(value: u64) -> Result<MoveNumber, Fail> {
-    match MoveNumber::new(value) {
-        Some(m) => Ok(m),
-        None => Err(Fail::new("no such number")),
-    }
+    MoveNumber::new(value).ok_or_else(|| Fail::new("no such number"))
 }
 
 #[test]
@@ -50,5 +47,17 @@ fn two_sets(rt: HostRuntime) -> Result<(), Fail> {
     assert!(rt; left.difference(right) == MoveSet::empty().with(a));
     assert!(rt; left.difference(left).is_empty() && !left.is_empty());
     assert!(rt; left.is_subset(left.union(right)) && !left.is_subset(right));
+    Ok(())
+}
+
+#[test]
+fn every_move(rt: HostRuntime) -> Result<(), Fail> {
+    let (low, high) = (number(0)?, number(63)?);
+    let all = MoveSet::all();
+    assert_eq!(rt; all.count(), 64);
+    assert!(rt; all.contains(low) && all.contains(high));
+    assert!(rt; all.lowest() == Some(low));
+    assert!(rt; MoveSet::empty().with(high).is_subset(all));
+    assert!(rt; all.difference(all) == MoveSet::empty());
     Ok(())
 }

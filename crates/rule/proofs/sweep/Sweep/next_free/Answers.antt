@@ -13,6 +13,6 @@ returns c =
     let sound = sheet_sound c.args.self.now.sheet.now in
     let left = holds c.args.self.now.left in
     cases_map c.lowest.result
-    (none_free L sound left (holds c.held_up.result) (holds c.difference.result) c.held_up.ensures.some c.difference.ensures.held (holds_below c.args.self.now.left))
-    (λ m h. free_waits L sound left (holds c.held_up.result) (holds c.difference.result) c.held_up.ensures.some c.difference.ensures.held c.held_up.ensures.all (number m) h.0)
-    c.lowest.ensures.held
+    (λ none. none_free L sound left (holds c.held_up.result) (holds c.difference.result) c.held_up.ensures.some c.difference.ensures.held (holds_below c.args.self.now.left) none.held)
+    (λ m first. free_waits L sound left (holds c.held_up.result) (holds c.difference.result) c.held_up.ensures.some c.difference.ensures.held c.held_up.ensures.all (number m) first.held)
+    c.lowest.ensures

@@ -12,7 +12,7 @@ use Rattle.sheet.proofs.sheet.Sheet.led_to.Goals as goal
 both : (c : goal.After-union-found) → (holds c.loop-m.found (number c.in-Some.m) ≡ true) × (holds c.loop-m.unseen (number c.in-Some.m) ≡ true)
 both c =
     and_parts (holds c.loop-m.found (number c.in-Some.m)) (holds c.loop-m.unseen (number c.in-Some.m))
-    (sym (c.intersection.ensures.held (number c.in-Some.m)) ∙ c.in-Some.ensures.held.0)
+    (sym (c.intersection.ensures.held (number c.in-Some.m)) ∙ c.in-Some.ensures.held)
 
 pub loop-m-preserved : goal.loop-m-preserved
 loop-m-preserved c =
