@@ -1,5 +1,5 @@
 // A set of moves: one word, with a bit for each number.
-ghost use Rattle.std.specs.Prelude.{◌≡◌, ℕ, ◌<◌, true, not, ◌&&◌, ◌||◌, length, Decides, MatchOption, ◌==◌, nat_lt};
+ghost use Rattle.std.specs.Prelude.{◌≡◌, ℕ, true, not, ◌&&◌, ◌||◌, length, Decides, MatchOption, ◌==◌, nat_lt};
 ghost use Rattle.moves.specs.Room.{room};
 ghost use Rattle.moves.specs.Number.{number};
 ghost use Rattle.moves.specs.Members.{holds, members, Holds, HoldsNone, Listed, Lowest};
