@@ -16,11 +16,6 @@ abbrev pub refused : {A : Type 0} → Result A Refusal → Option ℕ
 refused (Ok _) = None
 refused (Err e) = Some (number_of e)
 
--- what comes of a call on a ledger: the changed sheet, or the refusal
-abbrev pub Outcome : Call → Ledger → Result Sheet Refusal → Type 0
-Outcome c L (Ok s) = (refusal c L ≡ None) × (meaning s ≡ changed c L)
-Outcome c L (Err e) = refusal c L ≡ Some (number_of e)
-
 -- the places of a list of answers have the numbers that are listed, as far as there are places
 abbrev pub Answers : List (Result (Unit {0}) Refusal) → List (Option ℕ) → Type 0
 Answers rs ns = (k : ℕ) → k < length rs → k < length ns → refused (slice_index_or rs k (Ok tt)) ≡ slice_index_or ns k None

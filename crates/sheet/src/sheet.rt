@@ -13,7 +13,6 @@ mod changes;
 mod questions;
 mod reach;
 mod span;
-mod tries;
 
 #[derive(Clone, Copy)]
 pub struct Sheet {

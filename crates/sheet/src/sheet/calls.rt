@@ -1,14 +1,18 @@
 // The five calls. Each answers for every argument, and its promise is two equations: what it answers, and what the sheet means
 // afterwards, both from what the sheet meant before. A refusal leaves the sheet as it was.
-ghost use Rattle.std.specs.Prelude.{◌≡◌};
+ghost use Rattle.std.specs.Prelude.{◌≡◌, ℕ, true, Some, Ok, Err, Option};
+ghost use Rattle.moves.specs.Number.{number};
 ghost use Rattle.sheet.specs.Chains.{TellsChains};
-ghost use Rattle.sheet.specs.Ledger.{blank};
+ghost use Rattle.sheet.specs.Ledger.{blank, on};
 ghost use Rattle.sheet.specs.Meaning.{meaning, refused};
-ghost use Rattle.sheet.specs.Refusals.{refusal, feed};
+ghost use Rattle.sheet.specs.Refusals.{both_named, number_of, refusal, feed};
 
 use super::Sheet;
 use crate::call::Call;
+use crate::figures::Move;
 use crate::refusal::Refusal;
+use crate::tie::Tie;
+use moves::MoveNumber;
 
 impl Sheet {
     // A sheet with no move and no tie.
@@ -19,21 +23,35 @@ impl Sheet {
     }
 
     // Puts a move on the sheet, with a number that the caller chooses.
+    #[tactic(auto, using(crate::proofs::Spans::span_entered, crate::proofs::Spans::same_figures))]
     pub fn enter(&mut self, n: u64, release: u64, length: u64, curve: u64) -> Result<(), Refusal>
         ensures answer { refused result ≡ refusal (Call.Enter n release length curve) (meaning self.old) }
         ensures fed { meaning self.new ≡ feed (Call.Enter n release length curve) (meaning self.old) }
     {
-        *self = self.entering(n, release, length, curve)?;
+        let m = MoveNumber::new(n).ok_or(Refusal::NumberTooHigh)?;
+        if self.has(n) {
+            return Err(Refusal::NumberTaken);
+        }
+        let figures = Move::ranged(release, length, curve).ok_or(Refusal::OutOfRange)?;
+        if self.too_long_with(figures) {
+            return Err(Refusal::SpanTooLong);
+        }
+        *self = self.with_move(m, figures);
         Ok(())
     }
 
     // Adds a tie: `after` may not run before `before` is finished. One that is there already is accepted.
+    #[tactic(auto, using(crate::proofs::Sheets::sheet_chains))]
     pub fn tie(&mut self, before: u64, after: u64) -> Result<(), Refusal>
         ensures answer { refused result ≡ refusal (Call.Tie before after) (meaning self.old) }
         ensures fed { meaning self.new ≡ feed (Call.Tie before after) (meaning self.old) }
         ensures chains { TellsChains (meaning self.old).tie }
     {
-        *self = self.tying(before, after)?;
+        let added = self.both_named(before, after)?;
+        if self.chain_returns(added) {
+            return Err(Refusal::ChainReturns);
+        }
+        *self = self.with_tie(added);
         Ok(())
     }
 
@@ -42,7 +60,11 @@ impl Sheet {
         ensures answer { refused result ≡ refusal (Call.Cut before after) (meaning self.old) }
         ensures fed { meaning self.new ≡ feed (Call.Cut before after) (meaning self.old) }
     {
-        *self = self.cutting(before, after)?;
+        let gone = self.both_named(before, after)?;
+        if !self.tied(before, after) {
+            return Err(Refusal::TieAbsent);
+        }
+        *self = self.without_tie(gone);
         Ok(())
     }
 
@@ -51,7 +73,11 @@ impl Sheet {
         ensures answer { refused result ≡ refusal (Call.Strike n) (meaning self.old) }
         ensures fed { meaning self.new ≡ feed (Call.Strike n) (meaning self.old) }
     {
-        *self = self.striking(n)?;
+        let m = MoveNumber::new(n).ok_or(Refusal::NumberTooHigh)?;
+        if !self.has(n) {
+            return Err(Refusal::MoveAbsent);
+        }
+        *self = self.without_move(m);
         Ok(())
     }
 
@@ -72,5 +98,23 @@ impl Sheet {
             Call::Strike { number } => self.strike(number),
             Call::Plan | Call::Floor | Call::Check => Ok(()),
         }
+    }
+
+    // The tie between the two moves that a call names, where both are on the sheet.
+    fn both_named(&self, before: u64, after: u64) -> Result<Tie, Refusal>
+        ensures { elim result [
+          | Ok t ↦ (number t.before ≡ before) × (number t.after ≡ after) × (on (meaning self.now) before ≡ true) × (on (meaning self.now) after ≡ true)
+              × ((later : Option ℕ) → both_named before after (meaning self.now) later ≡ later)
+          | Err e ↦ (later : Option ℕ) → both_named before after (meaning self.now) later ≡ Some (number_of e)
+        ] }
+    {
+        let tie = Tie {
+            before: MoveNumber::new(before).ok_or(Refusal::NumberTooHigh)?,
+            after: MoveNumber::new(after).ok_or(Refusal::NumberTooHigh)?,
+        };
+        if !self.has(before) || !self.has(after) {
+            return Err(Refusal::MoveAbsent);
+        }
+        Ok(tie)
     }
 }
