@@ -13,6 +13,7 @@ pub struct MoveNumber {
 
 impl MoveNumber {
     // The move number of that value, or nothing where there is no such number.
+    // `new`, and not `TryFrom`: what a number that there is not means is for each caller to say, so there is no error to convert.
     pub fn new(value: u64) -> Option<MoveNumber>
         ensures { MatchOption result (room ≤ value) (λ m. m.value ≡ value) }
     {

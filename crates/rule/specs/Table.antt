@@ -1,6 +1,5 @@
 -- What tables of ready times say.
 use Rattle.std.specs.Prelude.{◌≡◌, ℕ, slice_index}
-use Rattle.moves.specs.Room.{room}
 use Rattle.sheet.specs.Ledger.{Ledger}
 use Rattle.rule.specs.Ready.{ready}
 use Rattle.rule.specs.declared.table.ReadyTable.{ReadyTable}

@@ -1,7 +1,8 @@
 // The scene change that the program goes through: its bars, and the calls that put them on the sheet.
 use sheet::Call;
 
-// What hangs on the bar with that number.
+// What hangs on the bar with that number. `scene_prices` has the same list: two programs that are read alone, and a crate between them
+// for five names would be no plainer.
 pub(crate) fn name_of(n: u64) -> &'static str {
     match n {
         0 => "forest cloth out",
@@ -40,6 +41,7 @@ pub(crate) fn calls() -> [Call; CALLS] {
     ]
 }
 
+// The three calls in short, for this list alone.
 fn enter(number: u64, release: u64, length: u64) -> Call {
     Call::Enter {
         number,

@@ -25,7 +25,11 @@ pub(crate) fn show(rt: &HostRuntime, sheet: &Sheet) -> io::Result<()> {
 fn show_bar(rt: &HostRuntime, sheet: &Sheet, ready: &ReadyTable, m: MoveNumber) -> io::Result<()> {
     let n = m.get();
     let name = name_of(n);
-    let Move { release, length, .. } = sheet.figures_of(m);
+    let Move {
+        release,
+        length,
+        ..
+    } = sheet.figures_of(m);
     let time = ready.at(m);
     print!(rt; "{n:>3}  {name:<17}  {release:>7}  {length:>6}  {time:>5}")?;
     show_waits(rt, sheet, m)

@@ -9,6 +9,7 @@ pub(crate) fn show(
     answers: &[Result<(), Refusal>],
 ) -> io::Result<()> {
     for (call, answer) in calls.iter().zip(answers) {
+        // by cases: each prints a line of its own
         match answer {
             Ok(()) => println!(rt; "{call}: done")?,
             Err(refusal) => {

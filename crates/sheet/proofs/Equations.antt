@@ -1,6 +1,6 @@
 -- What the entries of a sheet mean, and what they mean after a change at one place.
 use Rattle.std.proofs.Common.{◌≡◌, ℕ, zero, suc, ◌<◌, true, false, cond, not, ◌&&◌, ◌||◌, eqb, List, length, set, replicate, is_some, Some, None, Option, sym, refl, ap, ◌∙◌, subst, inl, inr, get_or-set_other, get_or-set_same}
-use Rattle.std.proofs.lemmas.Bool.{cases_eq, eq-eqb, ne_eqb, and_parts, false≢true}
+use Rattle.std.proofs.lemmas.Bool.{cases_eq, eq-eqb, ne_eqb, false≢true}
 use Rattle.sheet.specs.declared.entry.Entry.{Entry}
 use Rattle.sheet.specs.declared.figures.Move.{Move}
 use Rattle.sheet.specs.Facts.{Sound}
@@ -92,10 +92,6 @@ struck_parts old rest n place at fits same less =
     same_ledger _ _
     (place_set rest n place at fits None figures_in (λ k. cond (eqb k n) None (figures_in (entry_at old k))) (rw (eq-eqb n n refl) refl) (λ k ne. rw (ne_eqb k n ne) (same k)))
     (λ a b. place_set rest n place at fits None (λ o. waits_in o b) (λ k. not (eqb k n || eqb b n) && waits_in (entry_at old k) b) (rw (eq-eqb n n refl) refl) (λ k ne. rw (ne_eqb k n ne) (less k b)) a)
-
--- where a sheet with a tie keeps everything, the first of its moves is on the sheet
-pub tied_on : (i j : ℕ) (L : Ledger) → Sound (tied i j L) → on L i ≡ true
-tied_on i j L s = (and_parts (on L i) (on L j) (s.ends i j (rw (eq-eqb i i refl, eq-eqb j j refl) refl))).0
 
 -- what is so of a ledger is so of one that is the same
 pub sound_as : {L M : Ledger} → L ≡ M → Sound M → Sound L

@@ -2,8 +2,7 @@
 use Rattle.std.specs.Prelude.{◌≡◌, ℕ, ◌<◌, List, length, drop, Some, None, Ok, Err, Option, Result, slice_index_or}
 use Rattle.sheet.specs.Ledger.{Ledger}
 use Rattle.sheet.specs.Parts.{ledger_of}
-use Rattle.sheet.specs.Refusals.{number_of, refusal, changed}
-use Rattle.sheet.specs.declared.call.Call.{Call}
+use Rattle.sheet.specs.Refusals.{number_of}
 use Rattle.sheet.specs.declared.refusal.Refusal.{Refusal}
 use Rattle.sheet.specs.declared.sheet.Sheet.{Sheet}
 

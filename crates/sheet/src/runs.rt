@@ -34,7 +34,8 @@ fn make_all(sheet: &mut Sheet, calls: &[Call], answers: &mut [Result<(), Refusal
     }
 }
 
-// Writes an answer into its place, where there is one.
+// Writes an answer into its place, where there is one. By its index: of a place that `get_mut` or `iter_mut` lends, nothing is promised
+// of what the list holds once it is written.
 #[tactic(auto, using(std::proofs::lemmas::List::set_past))]
 fn put(answers: &mut [Result<(), Refusal>], i: usize, answer: Result<(), Refusal>)
     ensures { answers.new ≡ slice_set answers.old i answer }

@@ -23,6 +23,7 @@ impl Sheet {
     }
 
     // Puts a move on the sheet, with a number that the caller chooses.
+    // The three figures stay apart: they are any numbers that a caller has, and are those of a move (`Move`) once they are in range.
     #[tactic(auto, using(crate::proofs::Spans::span_entered, crate::proofs::Spans::same_figures))]
     pub fn enter(&mut self, n: u64, release: u64, length: u64, curve: u64) -> Result<(), Refusal>
         ensures answer { refused result ≡ refusal (Call.Enter n release length curve) (meaning self.old) }
@@ -82,6 +83,7 @@ impl Sheet {
     }
 
     // Makes whatever call it is given. Plan, Floor and Check are questions to the planner: the sheet has nothing to refuse in them.
+    // The calls are values, and a closure would not do: a run is any list of them, and its promise speaks of what each is.
     pub fn apply(&mut self, call: Call) -> Result<(), Refusal>
         ensures answer { refused result ≡ refusal call (meaning self.old) }
         ensures fed { meaning self.new ≡ feed call (meaning self.old) }
@@ -108,10 +110,7 @@ impl Sheet {
           | Err e ↦ (later : Option ℕ) → both_named before after (meaning self.now) later ≡ Some (number_of e)
         ] }
     {
-        let tie = Tie {
-            before: MoveNumber::new(before).ok_or(Refusal::NumberTooHigh)?,
-            after: MoveNumber::new(after).ok_or(Refusal::NumberTooHigh)?,
-        };
+        let tie = Tie::new(before, after).ok_or(Refusal::NumberTooHigh)?;
         if !self.has(before) || !self.has(after) {
             return Err(Refusal::MoveAbsent);
         }

@@ -11,6 +11,7 @@ ghost use Rattle.sheet.specs.Parts.{entry_at};
 use super::Sheet;
 use crate::entry::Entry;
 use crate::figures::Move;
+use crate::tie::Tie;
 use moves::{MoveNumber, MoveSet};
 
 impl Sheet {
@@ -49,10 +50,7 @@ impl Sheet {
     pub fn tied(&self, before: u64, after: u64) -> bool
         ensures { result ≡ (meaning self.now).tie before after }
     {
-        let (Some(i), Some(j)) = (MoveNumber::new(before), MoveNumber::new(after)) else {
-            return false;
-        };
-        self.waiting_for(i).contains(j)
+        Tie::new(before, after).is_some_and(|tie| self.waiting_for(tie.before).contains(tie.after))
     }
 
     // The moves on the sheet.
@@ -74,10 +72,8 @@ impl Sheet {
     pub fn waiting_for(&self, m: MoveNumber) -> MoveSet
         ensures { (k : ℕ) → holds result k ≡ (meaning self.now).tie (number m) k }
     {
-        match self.entry(m) {
-            Some(entry) => entry.followers,
-            None => MoveSet::empty(),
-        }
+        self.entry(m)
+            .map_or(MoveSet::empty(), |entry| entry.followers)
     }
 
     // How many moves are on the sheet.

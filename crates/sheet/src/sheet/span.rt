@@ -40,14 +40,14 @@ impl Sheet {
     fn span_with(&self, more: Move) -> u64
         ensures { result ≡ span_with (meaning self.now) more }
     {
-        self.latest_release().max(more.release) as u64
-            + (self.total_length() as u64 + more.length as u64)
+        u64::from(self.latest_release().max(more.release))
+            + (u64::from(self.total_length()) + u64::from(more.length))
     }
 
     // Whether the sheet's span would pass the last tick with one move more.
     pub(super) fn too_long_with(&self, more: Move) -> bool
         ensures { result ≡ nat_lt last_tick (span_with (meaning self.now) more) }
     {
-        self.span_with(more) > LAST_TICK as u64
+        self.span_with(more) > u64::from(LAST_TICK)
     }
 }

@@ -1,17 +1,15 @@
 -- Each turn takes one more move into the greatest tick; with all of them it is the tick by which the drive is through.
-use Rattle.std.proofs.Common.{◌≡◌, not, eqb, sym, ap, ◌∙◌, arith}
-use Rattle.finite.proofs.Walks.{greatest_begins, greatest_passes, greatest_ends}
+use Rattle.std.proofs.Common.{not, eqb, sym, ◌∙◌, arith}
+use Rattle.finite.proofs.Walks.{greatest_passes}
 use Rattle.moves.specs.Members.{holds}
 use Rattle.moves.specs.Number.{number}
 use Rattle.moves.specs.Room.{room}
 use Rattle.moves.specs.Walk.{left_of}
-use Rattle.moves.specs.declared.set.MoveSet.{MoveSet}
 use Rattle.sheet.specs.Ledger.{on}
 use Rattle.sheet.specs.Meaning.{meaning}
-use Rattle.sheet.proofs.Sheets.{sheet_sound}
-use Rattle.std.proofs.lemmas.Bool.{and_parts, cond-true, cond-false}
-use Rattle.rule.specs.Over.{over, through_from}
-use Rattle.rule.proofs.Ends.{through_at, over_law}
+use Rattle.std.proofs.lemmas.Bool.{and_parts, cond-true}
+use Rattle.rule.specs.Over.{through_from}
+use Rattle.rule.proofs.Ends.{through_at}
 use Rattle.rule.proofs.timed.Timed.through.Goals as goal
 
 pub loop-j-preserved : goal.loop-j-preserved

@@ -1,17 +1,16 @@
 -- Each turn adds the work of one more move; all of it is within the span of the sheet.
-use Rattle.std.proofs.Common.{◌≡◌, ℕ, ◌+◌, cond, leb, sym, ap, ◌∙◌, arith}
+use Rattle.std.proofs.Common.{◌≡◌, ℕ, ◌+◌, cond, leb, sym, arith}
 use Rattle.finite.specs.Below.{sum}
-use Rattle.finite.proofs.Walks.{passed, sum_begins, sum_passes, sum_ends}
+use Rattle.finite.proofs.Walks.{passed, sum_passes}
 use Rattle.moves.specs.Members.{holds}
 use Rattle.moves.specs.Number.{number}
 use Rattle.moves.specs.Room.{room}
 use Rattle.moves.specs.Walk.{left_of}
-use Rattle.moves.specs.declared.set.MoveSet.{MoveSet}
 use Rattle.sheet.specs.Ledger.{Ledger, length_of}
 use Rattle.sheet.specs.Meaning.{meaning}
 use Rattle.sheet.proofs.Sheets.{sheet_sound}
 use Rattle.rule.specs.Ready.{ready}
-use Rattle.rule.proofs.Ends.{work_off, work_short}
+use Rattle.rule.proofs.Ends.{work_short}
 use Rattle.rule.proofs.timed.Timed.work_from.Goals as goal
 
 -- what each move adds
