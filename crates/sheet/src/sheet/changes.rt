@@ -24,7 +24,7 @@ impl Sheet {
         Sheet { entries }
     }
 
-    // The sheet with no move and no tie.
+    // The sheet with no move and no tie; apart from `open`, because search does not find that an array of no entries means the blank ledger.
     pub(super) fn unused() -> Sheet
         ensures { meaning result ≡ blank }
     {
