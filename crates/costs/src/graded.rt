@@ -1,19 +1,12 @@
 // Graded costs: a grade from 0 to 9, and ticks that decide where the grades are the same.
-ghost use Rattle.std.specs.Prelude.{◌≤◌};
-ghost use Rattle.costs.specs.Limits.{last_grade};
-
-use crate::ticks::Ticks;
+use crate::bounded::{Grade, Ticks};
 
 mod calls;
 
-// The highest grade.
-pub const LAST_GRADE: u64 = 9;
-
-#[derive(Clone, Copy, PartialEq, Eq)]
+#[derive(Clone, Copy, PartialEq, Eq, PartialOrd, Ord)]
 pub struct Graded {
     // what decides first
-    grade: u8,
+    grade: Grade,
     // what decides where the grades are the same
     ticks: Ticks,
-    ghost bound: { grade ≤ last_grade },
 }

@@ -2,11 +2,10 @@
 use Rattle.std.proofs.Common.{◌≡◌, ℕ, ◌*◌, ◌≤◌, mul-le-mul, mul-le-mul_left, arith}
 use native.Mathlib.Nat.{min-eq_left}
 use Rattle.std.proofs.lemmas.Bool.{le-leb}
-use Rattle.costs.specs.Limits.{highest}
+use Rattle.costs.specs.Limits.{highest, greatest_factor}
 use Rattle.costs.specs.Points.{amount, points_of, points_not_above}
 use Rattle.time.specs.Ticks.{last_tick}
 use Rattle.curves.specs.Late.{due_of, rate_of, late_at, late_by}
-use Rattle.curves.specs.Limits.{greatest_factor}
 use Rattle.curves.specs.Meaning.{NeverFalls}
 use Rattle.curves.specs.Rows.{points_at}
 use Rattle.curves.specs.Steps.{rows_of, steps_at}
@@ -25,7 +24,7 @@ late_rises f s t h l =
 
 -- a factor and ticks make no more than the highest points
 pub late_low : (f : Late) (n : ℕ) → n ≤ last_tick → rate_of f * n ≤ highest
-late_low f n h = let p : rate_of f * n ≤ greatest_factor * last_tick = mul-le-mul f.rate.bound h in omega arith
+late_low f n h = let p : rate_of f * n ≤ greatest_factor * last_tick = mul-le-mul f.rate.high h in omega arith
 
 pub steps_rises : (f : Steps) → NeverFalls points_not_above (steps_at f)
 steps_rises f s t h l =

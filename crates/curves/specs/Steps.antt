@@ -1,7 +1,7 @@
 -- What steps mean.
 use Rattle.std.specs.Prelude.{ℕ, List, take}
 use Rattle.costs.specs.Points.{points_of}
-use Rattle.costs.specs.declared.points.Points.{Points}
+use Rattle.costs.specs.Points.{Points}
 use Rattle.curves.specs.Rows.{points_at}
 use Rattle.curves.specs.declared.row.Row.{Row}
 use Rattle.curves.specs.declared.steps.Steps.{Steps}

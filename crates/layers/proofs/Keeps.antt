@@ -3,7 +3,7 @@ use Rattle.std.proofs.Common.{◌≡◌, ℕ, ◌+◌, ◌*◌, min, Bool, true,
 use Rattle.std.proofs.lemmas.Bool.{cond_both, le-leb, leb-true, true≢false}
 use Rattle.costs.specs.Order.{Total, Transitive, lesser}
 use Rattle.costs.specs.Points.{amount, points_not_above}
-use Rattle.costs.specs.declared.points.Points.{Points}
+use Rattle.costs.specs.Points.{Points}
 use Rattle.curves.specs.Meaning.{NeverFalls}
 use Rattle.curves.proofs.Rises.{more_points}
 use Rattle.time.specs.Ticks.{last_tick}

@@ -3,9 +3,9 @@ use Rattle.std.proofs.Common.{◌≡◌, ℕ, zero, suc, ◌<◌, ◌≤◌, Lis
 use Rattle.std.proofs.lemmas.List.{length-take}
 use Rattle.costs.specs.Points.{amount, points_of, points_not_above}
 use Rattle.costs.specs.Ticks.{tick_count}
-use Rattle.costs.specs.declared.points.Points.{Points}
+use Rattle.costs.specs.Points.{Points}
 use Rattle.costs.proofs.Order.{points_total, points_chain}
-use Rattle.curves.specs.Factor.{times}
+use Rattle.costs.specs.Factor.{times}
 use Rattle.curves.specs.Meaning.{NeverFalls}
 use Rattle.curves.proofs.Rises.{late_rises, steps_rises}
 use Rattle.layers.specs.Layers.{delayed, weighted}

@@ -2,8 +2,8 @@
 use Rattle.std.specs.Prelude.{ℕ}
 use Rattle.costs.specs.Points.{points_not_above}
 use Rattle.costs.specs.Ticks.{tick_count}
-use Rattle.costs.specs.declared.points.Points.{Points}
-use Rattle.curves.specs.Factor.{times}
+use Rattle.costs.specs.Points.{Points}
+use Rattle.costs.specs.Factor.{times}
 use Rattle.curves.specs.Late.{late_at}
 use Rattle.curves.specs.Steps.{steps_at}
 use Rattle.layers.specs.Layers.{delayed, under_ceiling, weighted}

@@ -1,7 +1,7 @@
 -- What the cue tariff means.
 use Rattle.std.specs.Prelude.{◌≡◌, ℕ, zero, suc, ◌<◌, ◌≤◌, cond, List, [], ◌∷◌, length, take, Some, None, Option, nat_lt, slice_index_or}
 use Rattle.costs.specs.Points.{amount, points_of}
-use Rattle.costs.specs.declared.points.Points.{Points}
+use Rattle.costs.specs.Points.{Points}
 use Rattle.tariffs.specs.Meaning.{most_curves}
 use Rattle.tariffs.specs.Cue.{cue_at}
 use Rattle.tariffs.specs.declared.cue_curve.CueCurve.{CueCurve}

@@ -6,12 +6,12 @@ ghost use Rattle.costs.specs.Limits.{last_grade};
 ghost use Rattle.costs.specs.Refusals.{refused, unless};
 ghost use Rattle.std.proofs.Common.{arith, rules};
 ghost use Rattle.std.proofs.lemmas.Bool.Decides.{nat_tests};
-ghost use Rattle.costs.specs.Same.{same_graded};
+ghost use Rattle.costs.specs.Bounded.{same};
 
-use super::{Graded, LAST_GRADE};
+use super::Graded;
+use crate::bounded::{Grade, Ticks};
 use crate::kind::CostKind;
 use crate::refusal::PricingRefusal;
-use crate::ticks::Ticks;
 use std::fmt;
 
 impl Graded {
@@ -20,13 +20,9 @@ impl Graded {
         ensures answer { refused result ≡ unless (nat_le grade last_grade && nat_le ticks last_tick) PricingRefusal.OutOfRange None }
         ensures made { IfOk result (λ c. (grade_of c ≡ grade) × (ticks_in c ≡ ticks)) }
     {
-        if grade > LAST_GRADE {
-            return Err(PricingRefusal::OutOfRange);
-        }
-        let ticks = Ticks::new(ticks)?;
         Ok(Graded {
-            grade: grade as u8,
-            ticks,
+            grade: Grade::new(grade)?,
+            ticks: Ticks::new(ticks)?,
         })
     }
 
@@ -34,31 +30,24 @@ impl Graded {
     pub fn capped(grade: u64, ticks: u64) -> Graded
         ensures { result ≡ graded_of grade ticks }
     {
-        at_most_last(grade, ticks)
+        Graded {
+            grade: Grade::capped(grade),
+            ticks: Ticks::capped(ticks),
+        }
     }
 
     // The grade.
     pub fn grade(self) -> u64
         ensures { result ≡ grade_of self }
     {
-        self.grade as u64
+        self.grade.get()
     }
 
     // The ticks.
     pub fn ticks(self) -> u32
         ensures { result ≡ ticks_in self }
     {
-        self.ticks.get()
-    }
-}
-
-// The cost of that grade and that many ticks, each no more than its greatest.
-fn at_most_last(grade: u64, ticks: u64) -> Graded
-    ensures { result ≡ graded_of grade ticks }
-{
-    Graded {
-        grade: grade.min(LAST_GRADE) as u8,
-        ticks: Ticks::capped(ticks),
+        self.ticks.get() as u32
     }
 }
 
@@ -67,13 +56,12 @@ impl CostKind for Graded {
 
     ghost total = { Prim.search rules };
 
-    ghost same = { λ a b h k. same_graded a b (Prim.grind (arith, nat_tests)) (Prim.grind (arith, nat_tests)) };
+    ghost same = { λ a b h k i. record { grade = same a.grade b.grade (Prim.grind (arith, nat_tests)) i; ticks = same a.ticks b.ticks (Prim.grind (arith, nat_tests)) i } };
 
     ghost chain = { Prim.search rules };
 
     fn not_above(self, other: Graded) -> bool {
-        let below = self.grade() < other.grade();
-        below || (self.grade() == other.grade() && self.ticks() <= other.ticks())
+        self <= other
     }
 }
 
@@ -81,8 +69,8 @@ impl fmt::Display for Graded {
     ghost output = { λ c. Some (decimal (grade_of c) ++ (codes "/" ++ decimal (ticks_in c))) };
 
     fn fmt<W: fmt::Write>(&self, f: &mut fmt::Formatter<W>) -> fmt::Result {
-        let grade = self.grade();
-        let ticks = self.ticks();
+        let grade = self.grade;
+        let ticks = self.ticks;
         write!(f, "{grade}/{ticks}")
     }
 }

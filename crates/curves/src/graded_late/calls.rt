@@ -8,7 +8,7 @@ ghost use Rattle.curves.specs.Meaning.{NeverFalls, reading};
 
 use super::GradedLate;
 use crate::curve::Curve;
-use costs::{Graded, LAST_GRADE, PricingRefusal, Ticks};
+use costs::{Graded, LateGrade, PricingRefusal, Ticks};
 use time::LAST_TICK;
 
 impl GradedLate {
@@ -17,13 +17,9 @@ impl GradedLate {
         ensures answer { refused result ≡ unless (nat_le due last_tick && is_late_grade grade) PricingRefusal.OutOfRange None }
         ensures made { IfOk result (λ f. (graded_due_of f ≡ due) × (grade_after f ≡ grade)) }
     {
-        let due = Ticks::new(due)?;
-        if grade == 0 || grade > LAST_GRADE {
-            return Err(PricingRefusal::OutOfRange);
-        }
         Ok(GradedLate {
-            due,
-            grade: grade as u8,
+            due: Ticks::new(due)?,
+            grade: LateGrade::new(grade)?,
         })
     }
 }
@@ -39,9 +35,9 @@ impl Curve for GradedLate {
         ensures grade { grade_of result ≡ late_grade (graded_due_of self.now) (grade_after self.now) (min t last_tick) }
         ensures ticks { ticks_in result ≡ late_by (graded_due_of self.now) (min t last_tick) }
     {
-        let end = t.min(LAST_TICK);
+        let end = t.min(LAST_TICK) as u64;
         let due = self.due.get();
-        let grade = if end <= due { 0 } else { self.grade };
-        Graded::capped(grade as u64, end.saturating_sub(due) as u64)
+        let grade = if end <= due { 0 } else { self.grade.get() };
+        Graded::capped(grade, end.saturating_sub(due))
     }
 }
