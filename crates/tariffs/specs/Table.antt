@@ -1,7 +1,8 @@
 -- What the cue tariff means.
-use Rattle.std.specs.Prelude.{◌≡◌, ℕ, zero, suc, ◌<◌, ◌≤◌, cond, List, [], ◌∷◌, length, take, Some, None, Option, nat_lt, slice_index_or}
+use Rattle.std.specs.Prelude.{◌≡◌, ℕ, zero, suc, ◌<◌, ◌≤◌, List, [], ◌∷◌, length, Option, slice_index_or}
 use Rattle.costs.specs.Points.{amount, points_of}
 use Rattle.costs.specs.Points.{Points}
+use Rattle.tables.specs.Filled.{items_of, next_place}
 use Rattle.tariffs.specs.Meaning.{most_curves}
 use Rattle.tariffs.specs.Cue.{cue_at}
 use Rattle.tariffs.specs.declared.cue_curve.CueCurve.{CueCurve}
@@ -9,7 +10,7 @@ use Rattle.tariffs.specs.declared.cue_tariff.CueTariff.{CueTariff}
 
 -- the records that it has
 abbrev pub records_of : CueTariff → List CueCurve
-records_of s = take s.count s.records
+records_of s = items_of s.records
 
 -- what the record of number k means, and 0 points at every tick where there is none
 unfoldable pub record_at : List CueCurve → ℕ → ℕ → Points
@@ -26,4 +27,4 @@ pub record RecordLaw (cs : List CueCurve) (k t : ℕ) (c : Points) : Type 0 wher
 
 -- the number of one record more: the lowest that no record has, or None where all are taken
 abbrev pub next_number : List CueCurve → Option ℕ
-next_number cs = cond (nat_lt (length cs) most_curves) (Some (length cs)) None
+next_number cs = next_place most_curves cs

@@ -7,11 +7,11 @@ ghost use Rattle.tariffs.specs.Meaning.{NoneFalls};
 ghost use Rattle.tariffs.specs.Table.{records_of, record_at, next_number, RecordLaw};
 
 use super::CueTariff;
-use super::records::{how_many, priced, with_record};
 use crate::cue_curve::{CueBase, CueCurve};
 use crate::tariff::{MOST_CURVES, Tariff};
 use costs::{Points, Ticks};
-use curves::{Factor, Steps};
+use curves::{Curve, Factor, Steps};
+use tables::Filled;
 
 impl CueTariff {
     // A tariff with no curve.
@@ -26,8 +26,7 @@ impl CueTariff {
             ceiling: Points::capped(0),
         };
         CueTariff {
-            records: [unused; MOST_CURVES],
-            count: 0,
+            records: Filled::new(unused),
         }
     }
 
@@ -36,10 +35,7 @@ impl CueTariff {
         ensures { result ≡ next_number (records_of self.now) }
     {
         let next = self.count();
-        if next as usize >= MOST_CURVES {
-            return None;
-        }
-        Some(next)
+        ((next as usize) < MOST_CURVES).then_some(next)
     }
 
     // Adds the next curve and answers its number; where all numbers are taken it answers nothing and leaves the tariff as it was.
@@ -47,9 +43,8 @@ impl CueTariff {
         ensures number { result ≡ next_number (records_of self.old) }
         ensures records { MatchOption result (self.new ≡ self.old) (λ _. records_of self.new ≡ records_of self.old ++ curve ∷ []) }
     {
-        let number = self.next_number()?;
-        *self = with_record(self, curve);
-        Some(number)
+        let place = self.records.push(curve)?;
+        Some(place as u8)
     }
 }
 
@@ -60,15 +55,20 @@ impl Tariff for CueTariff {
 
     ghost curve_at = { λ s. record_at (records_of s) };
 
+    #[tactic(auto, using(crate::proofs::Records::records_rise))]
     fn count(&self) -> u8 {
-        how_many(self)
+        self.records.len() as u8
     }
 
+    #[tactic(auto, using(crate::proofs::Records::records_rise, crate::proofs::Records::record_law, crate::proofs::Records::at_place, crate::proofs::Records::record_past))]
     fn cost(&self, k: u8, t: u32) -> Points
         ensures value { result ≡ reading (record_at (records_of self.now) k) t }
         ensures rises { NoneFalls points_not_above (record_at (records_of self.now)) }
         ensures law { RecordLaw (records_of self.now) k (min t last_tick) result }
     {
-        priced(self, k, t)
+        self.records
+            .as_slice()
+            .get(k as usize)
+            .map_or(Points::capped(0), |curve| curve.cost(t))
     }
 }
