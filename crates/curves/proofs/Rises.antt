@@ -1,10 +1,8 @@
 -- Curves never fall: an end that is later is late by at least as much.
-use Rattle.std.proofs.Common.{◌≡◌, ℕ, ◌*◌, ◌≤◌, mul-le-mul, mul-le-mul_left, arith}
+use Rattle.std.proofs.Common.{◌≡◌, ℕ, ◌*◌, ◌≤◌, mul-le-mul_left, arith}
 use native.Mathlib.Nat.{min-eq_left}
 use Rattle.std.proofs.lemmas.Bool.{le-leb}
-use Rattle.costs.specs.Limits.{highest, greatest_factor}
 use Rattle.costs.specs.Points.{amount, points_of, points_not_above}
-use Rattle.time.specs.Ticks.{last_tick}
 use Rattle.curves.specs.Late.{due_of, rate_of, late_at, late_by}
 use Rattle.curves.specs.Meaning.{NeverFalls}
 use Rattle.curves.specs.Rows.{points_at}
@@ -21,10 +19,6 @@ pub late_rises : (f : Late) → NeverFalls points_not_above (late_at f)
 late_rises f s t h l =
     let w = rate_of f in let d = due_of f in let b : late_by d s ≤ late_by d t = omega arith in
     le-leb (amount (late_at f s)) (amount (late_at f t)) (more_points (w * late_by d s) (w * late_by d t) (mul-le-mul_left w b))
-
--- a factor and ticks make no more than the highest points
-pub late_low : (f : Late) (n : ℕ) → n ≤ last_tick → rate_of f * n ≤ highest
-late_low f n h = let p : rate_of f * n ≤ greatest_factor * last_tick = mul-le-mul f.rate.high h in omega arith
 
 pub steps_rises : (f : Steps) → NeverFalls points_not_above (steps_at f)
 steps_rises f s t h l =

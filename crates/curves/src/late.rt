@@ -37,7 +37,6 @@ impl Curve for Late {
 
     ghost cost_at = { late_at };
 
-    #[tactic(auto, using(crate::proofs::Rises::late_rises, crate::proofs::Rises::late_low))]
     fn cost(&self, t: u32) -> Points
         ensures value { result ≡ reading (late_at self.now) t }
         ensures rises { NeverFalls points_not_above (late_at self.now) }

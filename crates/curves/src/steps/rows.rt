@@ -17,8 +17,8 @@ pub(super) fn all_in_range(rows: &[Row]) -> bool
 pub(super) fn all_climb(rows: &[Row]) -> bool
     ensures { result ≡ climbs rows.now }
 {
-    rows.iter().zip(rows.iter().skip(1)).all(|(last, row)| last.tick < row.tick
-        && last.points <= row.points)
+    let mut neighbours = rows.iter().zip(rows.iter().skip(1));
+    neighbours.all(|(last, row)| last.tick < row.tick && last.points <= row.points)
 }
 
 // The points of the last row at or before that tick, 0 before the first.

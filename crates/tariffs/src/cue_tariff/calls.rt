@@ -60,7 +60,7 @@ impl Tariff for CueTariff {
         self.records.len() as u8
     }
 
-    #[tactic(auto, using(crate::proofs::Records::records_rise, crate::proofs::Records::record_law, crate::proofs::Records::at_place, crate::proofs::Records::record_past))]
+    #[tactic(auto, using(crate::proofs::Records::records_rise, crate::proofs::Records::record_law))]
     fn cost(&self, k: u8, t: u32) -> Points
         ensures value { result ≡ reading (record_at (records_of self.now) k) t }
         ensures rises { NoneFalls points_not_above (record_at (records_of self.now)) }
