@@ -1,22 +1,20 @@
 -- Rows of steps: what the tests on them mean, which points they give, and that these never fall.
-use Rattle.std.proofs.Common.{◌≡◌, ℕ, zero, suc, ◌<◌, ◌≤◌, true, ◌&&◌, leb, List, [], ◌∷◌, length, fold, refl, ◌∙◌, arith}
-use Rattle.std.proofs.lemmas.Bool.{and_parts, and_from, cond-true, cond-false, le-leb, leb-true, lt-leb}
+use Rattle.std.proofs.Common.{◌≡◌, ℕ, zero, suc, ◌<◌, ◌≤◌, true, List, [], ◌∷◌, length, fold, refl, arith}
 use Rattle.std.proofs.lemmas.Bool.Decides.{nat_tests}
+use Rattle.std.proofs.lemmas.Grind.{common_steps}
 use Rattle.costs.specs.Limits.{highest}
-use Rattle.curves.specs.Limits.{most_rows}
-use Rattle.curves.specs.Rows.{tick_of, points_in, row_in_range, in_range, InRange, climbs_to, climbs, Climbs, RowsLaw, fit, points_after, points_at, PointsLaw}
+use Rattle.curves.specs.Rows.{tick_of, points_in, in_range, InRange, climbs, Climbs, RowsLaw, fit, points_after, points_at, PointsLaw}
 use Rattle.curves.specs.declared.row.Row.{Row}
 
 -- rows that climb are all above the first
 above : (r : Row) (rows : List Row) → climbs (r ∷ rows) ≡ true → (j : ℕ) → j < length rows → (r.tick < tick_of rows j) × (r.points ≤ points_in rows j)
 above r [] e j h = absurd (omega arith)
-above r (s ∷ rows) e zero h = let first = (and_parts (climbs_to (r, s)) (climbs (s ∷ rows)) e).0 in grind (arith, nat_tests, first)
-above r (s ∷ rows) e (suc j) h =
-    let ends = and_parts (climbs_to (r, s)) (climbs (s ∷ rows)) e in let later = above s rows ends.1 j (omega arith) in grind (arith, nat_tests, ends.0, later.0, later.1)
+above r (s ∷ rows) e zero h = grind (arith, common_steps)
+above r (s ∷ rows) e (suc j) h = let later = above s rows (grind (arith, common_steps)) j (omega arith) in grind (arith, common_steps, later.0, later.1)
 
 climbs_rest : (r : Row) (rows : List Row) → climbs (r ∷ rows) ≡ true → climbs rows ≡ true
 climbs_rest r [] e = refl
-climbs_rest r (s ∷ rows) e = (and_parts (climbs_to (r, s)) (climbs (s ∷ rows)) e).1
+climbs_rest r (s ∷ rows) e = grind (arith, common_steps)
 
 climbs_any : (rows : List Row) → climbs rows ≡ true → Climbs rows
 climbs_any [] e i j h l = absurd (omega arith)
@@ -29,44 +27,38 @@ any_climbs [] h = refl
 any_climbs (r ∷ []) h = refl
 any_climbs (r ∷ (s ∷ rows)) h =
     let first = h 0 1 (omega arith) (omega arith) in
-    and_from (climbs_to (r, s)) (climbs (s ∷ rows)) (grind (arith, nat_tests, first.0, first.1))
-    (any_climbs (s ∷ rows) (λ i j l m. h (suc i) (suc j) (omega arith) (omega arith)))
+    let later = any_climbs (s ∷ rows) (λ i j l m. h (suc i) (suc j) (omega arith) (omega arith)) in grind (arith, nat_tests, first.0, first.1, later)
 
 in_range_each : (rows : List Row) → in_range rows ≡ true → InRange rows
 in_range_each [] e i h = absurd (omega arith)
-in_range_each (r ∷ rows) e zero h = let here = (and_parts (row_in_range r) (in_range rows) e).0 in grind (arith, nat_tests, here)
-in_range_each (r ∷ rows) e (suc i) h = in_range_each rows (and_parts (row_in_range r) (in_range rows) e).1 i (omega arith)
+in_range_each (r ∷ rows) e zero h = grind (arith, common_steps)
+in_range_each (r ∷ rows) e (suc i) h = in_range_each rows (grind (arith, common_steps)) i (omega arith)
 
 each_in_range : (rows : List Row) → InRange rows → in_range rows ≡ true
 each_in_range [] h = refl
 each_in_range (r ∷ rows) h =
-    let here = h 0 (omega arith) in
-    and_from (row_in_range r) (in_range rows) (grind (arith, nat_tests, here.0, here.1)) (each_in_range rows (λ i l. h (suc i) (omega arith)))
+    let here = h 0 (omega arith) in let later = each_in_range rows (λ i l. h (suc i) (omega arith)) in grind (arith, nat_tests, here.0, here.1, later)
 
 -- each of the two tests says exactly what its statement says
 pub rows_law : (rows : List Row) → RowsLaw rows
 rows_law rows = record { ranges = (in_range_each rows, each_in_range rows); order = (climbs_any rows, any_climbs rows) }
 
--- rows that make steps are not too many, and they climb
-pub fit_few : (rows : List Row) → fit rows ≡ true → length rows ≤ most_rows
-fit_few rows e =
-    leb-true (length rows) most_rows (and_parts (leb 1 (length rows)) (leb (length rows) most_rows) (and_parts (leb 1 (length rows) && leb (length rows) most_rows) (climbs rows) e).0).1
-
+-- rows that make steps climb
 pub fit_climbs : (rows : List Row) → fit rows ≡ true → climbs rows ≡ true
-fit_climbs rows e = (and_parts (leb 1 (length rows) && leb (length rows) most_rows) (climbs rows) e).1
+fit_climbs rows e = grind (arith, common_steps)
 
 -- rows that are all later than t leave the points as they were
 points_before : (p : ℕ) (rows : List Row) (t : ℕ) → ((i : ℕ) → i < length rows → t < tick_of rows i) → fold (points_after t) p rows ≡ p
 points_before p [] t h = refl
 points_before p (r ∷ rows) t h =
-    points_before (points_after t p r) rows t (λ i l. h (suc i) (omega arith)) ∙ cond-false (leb r.tick t) r.points p (lt-leb r.tick t (h 0 (omega arith)))
+    let here = h 0 (omega arith) in let later = points_before (points_after t p r) rows t (λ i l. h (suc i) (omega arith)) in grind (arith, nat_tests, here, later)
 
 -- the last row at or before t gives the points
 points_last : (p : ℕ) (rows : List Row) (t i : ℕ) → i < length rows → tick_of rows i ≤ t → ((j : ℕ) → i < j → j < length rows → t < tick_of rows j)
     → fold (points_after t) p rows ≡ points_in rows i
 points_last p [] t i l h later = absurd (omega arith)
 points_last p (r ∷ rows) t zero l h later =
-    points_before (points_after t p r) rows t (λ j m. later (suc j) (omega arith) (omega arith)) ∙ cond-true (leb r.tick t) r.points p (le-leb r.tick t h)
+    let same = points_before (points_after t p r) rows t (λ j m. later (suc j) (omega arith) (omega arith)) in grind (arith, nat_tests, same)
 points_last p (r ∷ rows) t (suc i) l h later = points_last (points_after t p r) rows t i (omega arith) h (λ j k m. later (suc j) (omega arith) (omega arith))
 
 pub points_law : (rows : List Row) (t : ℕ) → PointsLaw rows t (points_at rows t)
@@ -76,9 +68,7 @@ points_law rows t = record { before = points_before 0 rows t; from = points_last
 points_low : (p : ℕ) (rows : List Row) (t : ℕ) → p ≤ highest → in_range rows ≡ true → fold (points_after t) p rows ≤ highest
 points_low p [] t h e = h
 points_low p (r ∷ rows) t h e =
-    let ends = and_parts (row_in_range r) (in_range rows) e in
-    let here = ends.0 in
-    points_low (points_after t p r) rows t (grind (arith, nat_tests, here)) ends.1
+    points_low (points_after t p r) rows t (grind (arith, common_steps)) (grind (arith, common_steps))
 
 pub points_within : (rows : List Row) (t : ℕ) → in_range rows ≡ true → points_at rows t ≤ highest
 points_within rows t e = points_low 0 rows t (omega arith) e
@@ -88,9 +78,7 @@ from_rises : (r : Row) (rows : List Row) (p q s t : ℕ) → climbs (r ∷ rows)
     → fold (points_after s) p rows ≤ fold (points_after t) q rows
 from_rises r [] p q s t e h l m = h
 from_rises r (x ∷ rows) p q s t e h l m =
-    let ends = and_parts (climbs_to (r, x)) (climbs (x ∷ rows)) e in
-    let up = ends.0 in
-    from_rises x rows (points_after s p x) (points_after t q x) s t ends.1 (grind (arith, nat_tests, up)) (grind (arith, nat_tests, up)) m
+    from_rises x rows (points_after s p x) (points_after t q x) s t (grind (arith, common_steps)) (grind (arith, common_steps)) (grind (arith, common_steps)) m
 
 pub points_rise : (rows : List Row) (s t : ℕ) → climbs rows ≡ true → s ≤ t → points_at rows s ≤ points_at rows t
 points_rise [] s t e h = omega arith

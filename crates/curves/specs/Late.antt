@@ -3,10 +3,9 @@ use Rattle.std.specs.Prelude.{ℕ, ◌-◌, ◌*◌, Bool, cond, nat_le}
 use Rattle.costs.specs.Bounded.{value_of, is_within}
 use Rattle.costs.specs.Graded.{graded_of}
 use Rattle.costs.specs.Limits.{last_grade}
-use Rattle.costs.specs.Points.{points_of}
+use Rattle.costs.specs.Points.{points_of, Points}
 use Rattle.costs.specs.Ticks.{tick_count}
 use Rattle.costs.specs.declared.graded.Graded.{Graded}
-use Rattle.costs.specs.Points.{Points}
 use Rattle.costs.specs.Factor.{times}
 use Rattle.curves.specs.declared.graded_late.GradedLate.{GradedLate}
 use Rattle.curves.specs.declared.late.Late.{Late}

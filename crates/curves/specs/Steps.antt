@@ -1,7 +1,6 @@
 -- What steps mean.
 use Rattle.std.specs.Prelude.{ℕ, List}
-use Rattle.costs.specs.Points.{points_of}
-use Rattle.costs.specs.Points.{Points}
+use Rattle.costs.specs.Points.{points_of, Points}
 use Rattle.curves.specs.Rows.{points_at}
 use Rattle.curves.specs.declared.row.Row.{Row}
 use Rattle.tables.specs.Filled.{items_of}

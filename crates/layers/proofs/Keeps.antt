@@ -2,8 +2,7 @@
 use Rattle.std.proofs.Common.{◌≡◌, ℕ, ◌+◌, ◌*◌, min, Bool, true, sym, ◌∙◌, ⊎_elim, mul-le-mul_left, arith}
 use Rattle.std.proofs.lemmas.Bool.{cond_both, le-leb, leb-true, true≢false}
 use Rattle.costs.specs.Order.{Total, Transitive, lesser}
-use Rattle.costs.specs.Points.{amount, points_not_above}
-use Rattle.costs.specs.Points.{Points}
+use Rattle.costs.specs.Points.{amount, points_not_above, Points}
 use Rattle.curves.specs.Meaning.{NeverFalls}
 use Rattle.curves.proofs.Rises.{more_points}
 use Rattle.time.specs.Ticks.{last_tick}

@@ -2,9 +2,8 @@
 use Rattle.std.proofs.Common.{◌≡◌, ℕ, List, Some, None, Option, refl, ap, ◌∙◌, rules}
 use Rattle.std.specs.Prelude.{slice_get}
 use Rattle.std.proofs.lemmas.Option.{slice_get-get_or, slice_get_past}
-use Rattle.costs.specs.Points.{amount, points_not_above}
+use Rattle.costs.specs.Points.{amount, points_not_above, Points}
 use Rattle.costs.specs.Ticks.{tick_count}
-use Rattle.costs.specs.Points.{Points}
 use Rattle.costs.specs.Factor.{times}
 use Rattle.curves.specs.Meaning.{NeverFalls}
 use Rattle.curves.proofs.Rises.{late_rises, steps_rises}

@@ -1,8 +1,7 @@
 -- What a record of the cue tariff means: Ceiling over Weight over Delay over its base.
 use Rattle.std.specs.Prelude.{ℕ}
-use Rattle.costs.specs.Points.{points_not_above}
+use Rattle.costs.specs.Points.{points_not_above, Points}
 use Rattle.costs.specs.Ticks.{tick_count}
-use Rattle.costs.specs.Points.{Points}
 use Rattle.costs.specs.Factor.{times}
 use Rattle.curves.specs.Late.{late_at}
 use Rattle.curves.specs.Steps.{steps_at}

@@ -1,7 +1,6 @@
 -- What the cue tariff means.
 use Rattle.std.specs.Prelude.{◌≡◌, ℕ, ◌<◌, ◌≤◌, List, length, Some, None, Option, slice_get, slice_index_or}
-use Rattle.costs.specs.Points.{amount, points_of}
-use Rattle.costs.specs.Points.{Points}
+use Rattle.costs.specs.Points.{amount, points_of, Points}
 use Rattle.tables.specs.Filled.{items_of, next_place}
 use Rattle.tariffs.specs.Meaning.{most_curves}
 use Rattle.tariffs.specs.Cue.{cue_at}
