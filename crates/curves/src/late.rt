@@ -37,6 +37,7 @@ impl Curve for Late {
 
     ghost cost_at = { late_at };
 
+    // the trait's clauses are repeated: a call on the type itself is promised only what stands here
     fn cost(&self, t: u32) -> Points
         ensures value { result ≡ reading (late_at self.now) t }
         ensures rises { NeverFalls points_not_above (late_at self.now) }
