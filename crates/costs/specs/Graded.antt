@@ -1,13 +1,13 @@
 -- Graded costs as mathematics has them.
-use Rattle.std.specs.Prelude.{ℕ, min, Bool, ◌&&◌, ◌||◌, ◌==◌, nat_le, nat_lt}
-use Rattle.std.proofs.Math.Nat.{min-le_right}
+use Rattle.std.specs.Prelude.{ℕ, Bool, ◌&&◌, ◌||◌, ◌==◌, nat_le, nat_lt}
+use Rattle.costs.specs.Bounded.{value_of, capped_at}
 use Rattle.costs.specs.Limits.{last_grade}
 use Rattle.costs.specs.Ticks.{tick_count, ticks_of}
 use Rattle.costs.specs.declared.graded.Graded.{Graded}
 
 -- the grade of a graded cost
 abbrev pub grade_of : Graded → ℕ
-grade_of c = c.grade
+grade_of c = value_of c.grade
 
 -- its ticks
 abbrev pub ticks_in : Graded → ℕ
@@ -15,7 +15,7 @@ ticks_in c = tick_count c.ticks
 
 -- the cost of grade g with n ticks, the highest grade where g is more, and as many as the last tick where n is more
 abbrev pub graded_of : ℕ → ℕ → Graded
-graded_of g n = record { grade = min g last_grade; ticks = ticks_of n; bound = min-le_right g last_grade }
+graded_of g n = record { grade = capped_at last_grade g; ticks = ticks_of n }
 
 -- whether one graded cost is not above another: the grade decides, and the ticks where the grades are the same
 abbrev pub graded_not_above : Graded → Graded → Bool

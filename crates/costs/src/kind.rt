@@ -2,6 +2,7 @@
 ghost use Rattle.std.specs.Prelude.{◌≡◌, Bool};
 ghost use Rattle.costs.specs.Order.{Total, Antisymmetric, Transitive};
 
+// A trait of its own, and not `Ord`: a house that brings a kind owes this test and three laws, and no `Ordering` and no `==`.
 pub trait CostKind: Copy {
     // whether the first cost is not above the second
     ghost not_above: { Self → Self → Bool };

@@ -2,16 +2,16 @@
 // over any kind. Nothing here refuses but the making of a value that is out of range.
 #![tactic(auto)]
 
+mod bounded;
 mod choice;
 mod graded;
 mod kind;
 mod points;
 mod refusal;
-mod ticks;
 
+pub use bounded::{Bounded, Factor, Grade, LAST_GRADE, LateGrade, Ticks};
 pub use choice::{greater, lesser};
-pub use graded::{Graded, LAST_GRADE};
+pub use graded::Graded;
 pub use kind::CostKind;
 pub use points::{HIGHEST, Points};
 pub use refusal::PricingRefusal;
-pub use ticks::Ticks;

@@ -8,9 +8,9 @@ use std::fmt;
 #[derive(Clone, Copy, PartialEq, Eq, Debug)]
 pub enum PricingRefusal {
     // a number is outside its range
-    OutOfRange,
+    OutOfRange = 12,
     // there is no row, there are more than eight, their ticks do not rise or their points fall
-    RowsUnfit,
+    RowsUnfit = 13,
 }
 
 impl PricingRefusal {
@@ -18,10 +18,7 @@ impl PricingRefusal {
     pub fn number(self) -> u8
         ensures { result ≡ number_of self }
     {
-        match self {
-            PricingRefusal::OutOfRange => 12,
-            PricingRefusal::RowsUnfit => 13,
-        }
+        self as u8
     }
 }
 

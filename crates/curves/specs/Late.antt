@@ -1,12 +1,12 @@
 -- The curves that rise from a due tick on.
-use Rattle.std.specs.Prelude.{ℕ, ◌-◌, ◌*◌, Bool, cond, ◌&&◌, nat_le}
+use Rattle.std.specs.Prelude.{ℕ, ◌-◌, ◌*◌, Bool, cond, nat_le}
+use Rattle.costs.specs.Bounded.{value_of, is_within}
 use Rattle.costs.specs.Graded.{graded_of}
 use Rattle.costs.specs.Limits.{last_grade}
-use Rattle.costs.specs.Points.{points_of}
+use Rattle.costs.specs.Points.{points_of, Points}
 use Rattle.costs.specs.Ticks.{tick_count}
 use Rattle.costs.specs.declared.graded.Graded.{Graded}
-use Rattle.costs.specs.declared.points.Points.{Points}
-use Rattle.curves.specs.Factor.{times}
+use Rattle.costs.specs.Factor.{times}
 use Rattle.curves.specs.declared.graded_late.GradedLate.{GradedLate}
 use Rattle.curves.specs.declared.late.Late.{Late}
 
@@ -40,7 +40,7 @@ graded_due_of f = tick_count f.due
 
 -- the grade of a later end
 abbrev pub grade_after : GradedLate → ℕ
-grade_after f = f.grade
+grade_after f = value_of f.grade
 
 -- what a Graded Late curve means
 abbrev pub graded_late_at : GradedLate → ℕ → Graded
@@ -48,4 +48,4 @@ graded_late_at f t = graded_of (late_grade (graded_due_of f) (grade_after f) t) 
 
 -- whether a number may be the grade of a Graded Late curve: 1 to 9
 abbrev pub is_late_grade : ℕ → Bool
-is_late_grade g = nat_le 1 g && nat_le g last_grade
+is_late_grade g = is_within 1 last_grade g

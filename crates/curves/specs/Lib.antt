@@ -1,6 +1,5 @@
 pub mod Meaning
 pub mod Limits
-pub mod Factor
 pub mod Late
 pub mod Rows
 pub mod Steps

@@ -1,5 +1,6 @@
 -- Rows of steps: a tick each, and the points from that tick on.
-use Rattle.std.specs.Prelude.{◌≡◌, ℕ, ◌<◌, ◌≤◌, Bool, true, cond, ◌&&◌, List, [], ◌∷◌, length, None, Decides, Option, nat_le, nat_lt, slice_index_or}
+use Rattle.std.specs.List.{list_all}
+use Rattle.std.specs.Prelude.{◌≡◌, ℕ, ◌<◌, ◌≤◌, Bool, cond, ◌&&◌, List, length, drop, zip, fold, None, Decides, Option, nat_le, nat_lt, slice_index_or}
 use Rattle.time.specs.Ticks.{last_tick}
 use Rattle.costs.specs.Limits.{highest}
 use Rattle.costs.specs.Refusals.{unless}
@@ -19,24 +20,25 @@ tick_of rows i = (slice_index_or rows i free_row).tick
 abbrev pub points_in : List Row → ℕ → ℕ
 points_in rows i = (slice_index_or rows i free_row).points
 
--- the tick and the points of each row are within their ranges
-unfoldable pub in_range : List Row → Bool
-in_range [] = true
-in_range (r ∷ rows) = (nat_le r.tick last_tick && nat_le r.points highest) && in_range rows
+-- the tick and the points of a row are within their ranges
+abbrev pub row_in_range : Row → Bool
+row_in_range r = nat_le r.tick last_tick && nat_le r.points highest
+
+-- those of each row are
+abbrev pub in_range : List Row → Bool
+in_range rows = list_all row_in_range rows
 
 -- the same as a statement about each row
 abbrev pub InRange : List Row → Type 0
 InRange rows = (i : ℕ) → i < length rows → (tick_of rows i ≤ last_tick) × (points_in rows i ≤ highest)
 
--- from the row r on, ticks strictly rise and points never fall from row to row
-unfoldable pub climbs_from : Row → List Row → Bool
-climbs_from r [] = true
-climbs_from r (s ∷ rows) = (nat_lt r.tick s.tick && nat_le r.points s.points) && climbs_from s rows
+-- from one row to the next the tick strictly rises and the points do not fall
+abbrev pub climbs_to : Row × Row → Bool
+climbs_to p = nat_lt p.0.tick p.1.tick && nat_le p.0.points p.1.points
 
 -- ticks strictly rise and points never fall from row to row
-unfoldable pub climbs : List Row → Bool
-climbs [] = true
-climbs (r ∷ rows) = climbs_from r rows
+abbrev pub climbs : List Row → Bool
+climbs rows = list_all climbs_to (zip rows (drop 1 rows))
 
 -- the same as a statement about any two rows
 abbrev pub Climbs : List Row → Type 0
@@ -55,14 +57,13 @@ fit rows = (nat_le 1 (length rows) && nat_le (length rows) most_rows) && climbs 
 abbrev pub rows_refusal : List Row → Option ℕ
 rows_refusal rows = unless (in_range rows) OutOfRange (unless (fit rows) RowsUnfit None)
 
--- the points of the last of the rows whose tick is at or before t, and p where there is none
-unfoldable pub points_from : ℕ → List Row → ℕ → ℕ
-points_from p [] t = p
-points_from p (r ∷ rows) t = points_from (cond (nat_le r.tick t) r.points p) rows t
+-- the points at tick t where they were p before the row r: its own where its tick is at or before t
+abbrev pub points_after : ℕ → ℕ → Row → ℕ
+points_after t p r = cond (nat_le r.tick t) r.points p
 
 -- the points at tick t: those of the last row at or before it, 0 before the first row
 abbrev pub points_at : List Row → ℕ → ℕ
-points_at rows t = points_from 0 rows t
+points_at rows t = fold (points_after t) 0 rows
 
 -- p is the points at tick t
 pub record PointsLaw (rows : List Row) (t p : ℕ) : Type 0 where

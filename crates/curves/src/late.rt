@@ -3,13 +3,12 @@ ghost use Rattle.std.specs.Prelude.{◌≡◌, ◌*◌, ◌≤◌, min, ◌&&◌
 ghost use Rattle.time.specs.Ticks.{last_tick};
 ghost use Rattle.costs.specs.Points.{amount, points_of, points_not_above};
 ghost use Rattle.costs.specs.Refusals.{refused, unless};
-ghost use Rattle.curves.specs.Factor.{is_factor};
+ghost use Rattle.costs.specs.Factor.{is_factor};
 ghost use Rattle.curves.specs.Late.{due_of, rate_of, late_at, late_points};
 ghost use Rattle.curves.specs.Meaning.{NeverFalls, reading};
 
 use crate::curve::Curve;
-use crate::factor::Factor;
-use costs::{Points, PricingRefusal, Ticks};
+use costs::{Factor, Points, PricingRefusal, Ticks};
 use time::LAST_TICK;
 
 #[derive(Clone, Copy)]
@@ -26,19 +25,10 @@ impl Late {
         ensures answer { refused result ≡ unless (nat_le due last_tick && is_factor rate) PricingRefusal.OutOfRange None }
         ensures made { IfOk result (λ f. (due_of f ≡ due) × (rate_of f ≡ rate)) }
     {
-        let due = Ticks::new(due)?;
-        let rate = Factor::new(rate)?;
-        Ok(Late { due, rate })
-    }
-
-    // The points of an end that is late by so many ticks.
-    fn priced(&self, late: u32) -> Points
-        requires { late ≤ last_tick }
-        ensures points { result ≡ points_of (rate_of self.now * late) }
-        ensures all { amount result ≡ rate_of self.now * late }
-        ensures rises { NeverFalls points_not_above (late_at self.now) }
-    {
-        Points::capped(self.rate.get() as u64 * late as u64)
+        Ok(Late {
+            due: Ticks::new(due)?,
+            rate: Factor::new(rate)?,
+        })
     }
 }
 
@@ -47,12 +37,13 @@ impl Curve for Late {
 
     ghost cost_at = { late_at };
 
+    // the trait's clauses are repeated: a call on the type itself is promised only what stands here
     fn cost(&self, t: u32) -> Points
         ensures value { result ≡ reading (late_at self.now) t }
         ensures rises { NeverFalls points_not_above (late_at self.now) }
         ensures formula { amount result ≡ late_points (due_of self.now) (rate_of self.now) (min t last_tick) }
     {
-        let late = t.min(LAST_TICK).saturating_sub(self.due.get());
-        self.priced(late)
+        let late = t.min(LAST_TICK).saturating_sub(self.due.get() as u32);
+        Points::capped(self.rate.get() * late as u64)
     }
 }

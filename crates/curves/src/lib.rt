@@ -3,14 +3,13 @@
 #![tactic(auto)]
 
 mod curve;
-mod factor;
 mod graded_late;
 mod late;
 mod row;
 mod steps;
 
+pub use costs::Factor;
 pub use curve::Curve;
-pub use factor::Factor;
 pub use graded_late::GradedLate;
 pub use late::Late;
 pub use row::Row;

@@ -2,8 +2,7 @@
 use Rattle.std.specs.Prelude.{ℕ, ◌+◌, ◌*◌, min, Bool}
 use Rattle.time.specs.Ticks.{last_tick}
 use Rattle.costs.specs.Order.{lesser, greater}
-use Rattle.costs.specs.Points.{amount, points_of}
-use Rattle.costs.specs.declared.points.Points.{Points}
+use Rattle.costs.specs.Points.{amount, points_of, Points}
 
 -- Delay: the cost d ticks later, and at the last tick where that is later still
 abbrev pub delayed : {C : Type 0} → ℕ → (ℕ → C) → ℕ → C

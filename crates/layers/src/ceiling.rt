@@ -4,6 +4,7 @@ ghost use Rattle.layers.specs.Layers.{under_ceiling};
 use costs::{CostKind, lesser};
 use curves::Curve;
 
+// C is a parameter of its own: a struct that holds an `F::Cost` cannot be `Copy` yet.
 #[derive(Clone, Copy, Drop)]
 pub struct Ceiling<F, C> {
     // the curve below

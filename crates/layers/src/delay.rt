@@ -20,6 +20,6 @@ impl<F: Curve> Curve for Delay<F> {
     ghost cost_at = { λ s. delayed (tick_count s.by) (F.Curve.cost_at s.curve) };
 
     fn cost(&self, t: u32) -> F::Cost {
-        self.curve.cost(t.min(LAST_TICK) + self.by.get())
+        self.curve.cost(t.min(LAST_TICK) + self.by.get() as u32)
     }
 }

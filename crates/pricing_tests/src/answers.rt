@@ -11,8 +11,5 @@ pub(crate) const HIGH: u64 = 1_000_000_000_000_000;
 
 // The number of the refusal, or 0 where there is none.
 pub(crate) fn answer<T: Drop>(r: Result<T, PricingRefusal>) -> u8 {
-    match r {
-        Ok(_) => 0,
-        Err(refusal) => refusal.number(),
-    }
+    r.err().map_or(0, |refusal| refusal.number())
 }

@@ -4,19 +4,19 @@ use costs::{CostKind, Graded, Points, Ticks, greater, lesser};
 
 #[test]
 fn ranges(rt: HostRuntime) {
-    for row in [(0, 0), (HIGH, 0), (HIGH + 1, 12), (MAX, 12)] {
-        assert_eq!(rt; answer(Points::new(row.0)), row.1);
+    for (points, number) in [(0, 0), (HIGH, 0), (HIGH + 1, 12), (MAX, 12)] {
+        assert_eq!(rt; answer(Points::new(points)), number);
     }
-    for row in [
+    for (ticks, number) in [
         (0, 0),
         (LAST, 0),
         (LAST + 1, 12),
         (4_294_967_296, 12),
         (MAX, 12),
     ] {
-        assert_eq!(rt; answer(Ticks::new(row.0)), row.1);
+        assert_eq!(rt; answer(Ticks::new(ticks)), number);
     }
-    for row in [
+    for (grade, ticks, number) in [
         (0, 0, 0),
         (9, LAST, 0),
         (10, 0, 12),
@@ -24,7 +24,7 @@ fn ranges(rt: HostRuntime) {
         (0, LAST + 1, 12),
         (MAX, MAX, 12),
     ] {
-        assert_eq!(rt; answer(Graded::new(row.0, row.1)), row.2);
+        assert_eq!(rt; answer(Graded::new(grade, ticks)), number);
     }
 }
 

@@ -6,7 +6,7 @@ use std::test::Fail;
 
 #[test]
 fn ranges(rt: HostRuntime) {
-    for row in [
+    for (factor, number) in [
         (0, 12),
         (1, 0),
         (1_000, 0),
@@ -14,15 +14,15 @@ fn ranges(rt: HostRuntime) {
         (4_294_967_297, 12),
         (MAX, 12),
     ] {
-        assert_eq!(rt; answer(Factor::new(row.0)), row.1);
-        assert_eq!(rt; answer(Late::new(0, row.0)), row.1);
+        assert_eq!(rt; answer(Factor::new(factor)), number);
+        assert_eq!(rt; answer(Late::new(0, factor)), number);
     }
-    for row in [(0, 0), (LAST, 0), (LAST + 1, 12), (MAX, 12)] {
-        assert_eq!(rt; answer(Late::new(row.0, 1)), row.1);
-        assert_eq!(rt; answer(GradedLate::new(row.0, 1)), row.1);
+    for (due, number) in [(0, 0), (LAST, 0), (LAST + 1, 12), (MAX, 12)] {
+        assert_eq!(rt; answer(Late::new(due, 1)), number);
+        assert_eq!(rt; answer(GradedLate::new(due, 1)), number);
     }
-    for row in [(0, 12), (1, 0), (9, 0), (10, 12), (257, 12), (MAX, 12)] {
-        assert_eq!(rt; answer(GradedLate::new(0, row.0)), row.1);
+    for (grade, number) in [(0, 12), (1, 0), (9, 0), (10, 12), (257, 12), (MAX, 12)] {
+        assert_eq!(rt; answer(GradedLate::new(0, grade)), number);
     }
     assert_eq!(rt; Factor::one().get(), 1);
 }
@@ -30,7 +30,7 @@ fn ranges(rt: HostRuntime) {
 #[test]
 fn late(rt: HostRuntime) -> Result<(), Fail> {
     let f = Late::new(4, 3)?;
-    for row in [
+    for (end, points) in [
         (0, 0),
         (4, 0),
         (5, 3),
@@ -38,7 +38,7 @@ fn late(rt: HostRuntime) -> Result<(), Fail> {
         (1_000_001, 2_999_988),
         (u32::MAX, 2_999_988),
     ] {
-        assert_eq!(rt; f.cost(row.0).get(), row.1);
+        assert_eq!(rt; f.cost(end).get(), points);
     }
     assert_eq!(rt; Late::new(0, 1_000)?.cost(u32::MAX).get(), 1_000_000_000);
     assert_eq!(rt; Late::new(LAST, 1_000)?.cost(u32::MAX).get(), 0);

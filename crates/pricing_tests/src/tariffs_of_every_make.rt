@@ -9,12 +9,7 @@ use tariffs::{CueBase, CueCurve, CueTariff, Joined, Single, Tariff, price_list};
 fn four<T: Tariff<Cost = Points>>(tariff: &T, k: u8) -> [u64; 4] {
     let mut prices = [Points::capped(1); 4];
     price_list(tariff, k, &[0, 11, 30, u32::MAX], &mut prices);
-    [
-        prices[0].get(),
-        prices[1].get(),
-        prices[2].get(),
-        prices[3].get(),
-    ]
+    prices.map(|price| price.get())
 }
 
 #[test]

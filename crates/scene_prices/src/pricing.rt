@@ -18,10 +18,10 @@ pub(crate) fn show<C: CostKind + Display, T: Tariff<Cost = C>>(
     show_ends(rt)?;
     for m in sheet.moves().iter() {
         let n = m.get();
-        if let Some(figures) = sheet.figures(n) {
-            if figures.curve < tariff.count() {
-                show_bar(rt, n, tariff, figures.curve)?;
-            }
+        if let Some(figures) = sheet.figures(n)
+            && figures.curve < tariff.count()
+        {
+            show_bar(rt, n, tariff, figures.curve)?;
         }
     }
     Ok(())
@@ -55,17 +55,13 @@ fn show_bar<C: CostKind + Display, T: Tariff<Cost = C>>(
     Ok(())
 }
 
-// What it costs by curve k to end at each of the ticks.
+// What it costs by curve k to end at each of the ticks; on the heap, since the size of a cost is not known here.
 fn priced<C: CostKind, T: Tariff<Cost = C>>(
     heap: Global,
     tariff: &T,
     k: u8,
 ) -> Result<Vec<C>, AllocError> {
-    let start = tariff.cost(k, 0);
-    let mut prices = Vec::new(heap);
-    for _ in ENDS {
-        prices.push(start)?;
-    }
+    let mut prices = vec![in heap; tariff.cost(k, 0); ENDS.len()]?;
     price_list(tariff, k, &ENDS, &mut prices);
     Ok(prices)
 }

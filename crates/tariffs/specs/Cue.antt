@@ -1,9 +1,8 @@
 -- What a record of the cue tariff means: Ceiling over Weight over Delay over its base.
 use Rattle.std.specs.Prelude.{ℕ}
-use Rattle.costs.specs.Points.{points_not_above}
+use Rattle.costs.specs.Points.{points_not_above, Points}
 use Rattle.costs.specs.Ticks.{tick_count}
-use Rattle.costs.specs.declared.points.Points.{Points}
-use Rattle.curves.specs.Factor.{times}
+use Rattle.costs.specs.Factor.{times}
 use Rattle.curves.specs.Late.{late_at}
 use Rattle.curves.specs.Steps.{steps_at}
 use Rattle.layers.specs.Layers.{delayed, under_ceiling, weighted}

@@ -9,16 +9,9 @@ pub fn price_list<T: Tariff>(tariff: &T, k: u8, ticks: &[u32], prices: &mut [T::
     ensures each { (i : ℕ) (d : T.Cost) → i < length ticks.now → i < length prices.new → slice_index_or prices.new i d ≡ reading (T.curve_at tariff.now k) (slice_index ticks.now i) }
     ensures later { drop (length ticks.now) prices.new ≡ drop (length ticks.now) prices.old }
 {
-    fill(tariff, k, ticks, prices);
-}
-
-// The loop of a price list.
-fn fill<T: Tariff>(tariff: &T, k: u8, ticks: &[u32], prices: &mut [T::Cost])
-    ensures each { (i : ℕ) (d : T.Cost) → i < length ticks.now → i < length prices.new → slice_index_or prices.new i d ≡ reading (T.curve_at tariff.now k) (slice_index ticks.now i) }
-    ensures later { drop (length ticks.now) prices.new ≡ drop (length ticks.now) prices.old }
-{
     let count = ticks.len().min(prices.len());
-    for i in 0..count {
-        prices[i] = tariff.cost(k, ticks[i]);
+    // by place, and not by `prices.iter_mut().zip(ticks)`: after an adapter over `iter_mut` nothing is known of what was written
+    for (i, tick) in ticks[..count].iter().enumerate() {
+        prices[i] = tariff.cost(k, *tick);
     }
 }
