@@ -2,14 +2,14 @@
 ghost use Rattle.std.specs.Prelude.{◌≡◌};
 ghost use Rattle.costs.specs.Refusals.{number_of};
 
-use std::error::Error;
-use std::fmt;
+use thiserror::Error;
 
-#[derive(Clone, Copy, PartialEq, Eq, Debug)]
+#[derive(Clone, Copy, PartialEq, Eq, Debug, Error)]
 pub enum PricingRefusal {
-    // a number is outside its range
+    #[error("a number is outside its range")]
     OutOfRange = 12,
     // there is no row, there are more than eight, their ticks do not rise or their points fall
+    #[error("one to eight rows are wanted, with rising ticks and points that never fall")]
     RowsUnfit = 13,
 }
 
@@ -21,16 +21,3 @@ impl PricingRefusal {
         self as u8
     }
 }
-
-impl fmt::Display for PricingRefusal {
-    fn fmt<W: fmt::Write>(&self, f: &mut fmt::Formatter<W>) -> fmt::Result {
-        let words = match self {
-            PricingRefusal::OutOfRange => "a number is outside its range",
-            PricingRefusal::RowsUnfit =>
-                "one to eight rows are wanted, with rising ticks and points that never fall",
-        };
-        f.write_str(words)
-    }
-}
-
-impl Error for PricingRefusal {}
