@@ -1,7 +1,8 @@
 // The bars of the scene that is priced, as they stand on the sheet at the end of the scene change.
 use sheet::{Call, Sheet, replay};
 
-// What hangs on the bar with that number.
+// What hangs on the bar with that number. `scene` has the same list: two programs that are read alone, and a crate between them for five
+// names would be no plainer.
 pub(crate) fn name_of(n: u64) -> &'static str {
     match n {
         0 => "forest cloth out",

@@ -31,6 +31,7 @@ fn strike(number: u64) -> Call {
     Call::Strike { number }
 }
 
+// The number of the refusal, or 0 where there is none.
 fn answer(r: Result<(), Refusal>) -> u8 {
     r.err().map_or(0, |refusal| refusal.number())
 }

@@ -29,6 +29,7 @@ impl Curve for CueBase {
 
     ghost cost_at = { base_at };
 
+    // by its tag, and not through `dyn`: records are plain data in a table of a fixed size
     fn cost(&self, t: u32) -> Points {
         match self {
             CueBase::Late(late) => late.cost(t),

@@ -1,4 +1,5 @@
-// Making checked numbers, and reading them.
+// Making checked numbers, and reading them. By `new` and `get`, and not by `TryFrom` and `From`: they answer the same, and `Ticks::new(7)?` says
+// which number is made, where `7.try_into()?` does not.
 ghost use Rattle.std.specs.Prelude.{◌≡◌, ◌≤◌, IfOk, Some, None, decimal};
 ghost use Rattle.costs.specs.Bounded.{value_of, capped_at, is_within};
 ghost use Rattle.costs.specs.Factor.{times};
