@@ -22,6 +22,7 @@ pub fn replay(calls: &[Call], answers: &mut [Result<(), Refusal>]) -> Sheet
 }
 
 // Makes the calls on that sheet.
+#[tactic(auto, using(crate::proofs::Replays::running))]
 fn make_all(sheet: &mut Sheet, calls: &[Call], answers: &mut [Result<(), Refusal>])
     ensures sheet { meaning sheet.new ≡ fed calls.now (meaning sheet.old) }
     ensures answers { Answers answers.new (answered calls.now (meaning sheet.old)) }

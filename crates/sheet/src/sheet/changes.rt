@@ -25,6 +25,7 @@ impl Sheet {
     }
 
     // The sheet with no move and no tie.
+    #[tactic(auto, using(crate::proofs::Changes::unused_parts))]
     pub(super) fn unused() -> Sheet
         ensures { meaning result ≡ blank }
     {
@@ -32,6 +33,7 @@ impl Sheet {
     }
 
     // The sheet with one move more.
+    #[tactic(auto, using(crate::proofs::Changes::with_move_parts))]
     pub(super) fn with_move(&self, m: MoveNumber, figures: Move) -> Sheet
         requires free { on (meaning self.now) (number m) ≡ false }
         requires fit { ranged figures ≡ true }
@@ -44,6 +46,7 @@ impl Sheet {
     }
 
     // The sheet with that tie.
+    #[tactic(auto, using(crate::proofs::Changes::with_tie_parts))]
     pub(super) fn with_tie(&self, tie: Tie) -> Sheet
         requires before { on (meaning self.now) (number tie.before) ≡ true }
         requires after { on (meaning self.now) (number tie.after) ≡ true }
