@@ -24,7 +24,7 @@ struct Sweep<'a> {
 }
 
 // The ready times of the sheet: at most n turns for n moves, with at most n steps each.
-#[tactic(auto, using(moves::proofs::Sets::length_without))]
+#[tactic(auto, using(moves::proofs::Sets::length_without, crate::proofs::Steps::sheet_law))]
 pub(crate) fn swept(sheet: &Sheet) -> ReadyTable
     ensures times { Tabled (meaning sheet.now) result }
     ensures law { ReadyLaw (meaning sheet.now) }
@@ -38,6 +38,7 @@ pub(crate) fn swept(sheet: &Sheet) -> ReadyTable
 
 impl<'a> Sweep<'a> {
     // The sweep before its first turn.
+    #[tactic(auto, using(crate::proofs::Steps::sheet_begins))]
     fn new(sheet: &'a Sheet) -> Sweep<'a>
         ensures { result.sheet.now ≡ sheet.now }
     {
@@ -84,7 +85,7 @@ impl<'a> Sweep<'a> {
     }
 
     // The ready time of a move that waits for none that is left.
-    #[tactic(auto, using(crate::proofs::Steps::finishes_off, crate::proofs::Times::ready_equation, finite::proofs::Walks::comparing, sheet::proofs::Sheets::sheet_sound))]
+    #[tactic(auto, using(crate::proofs::Steps::finishes_off, crate::proofs::Times::ready_equation, crate::proofs::Done::comparing, sheet::proofs::Sheets::sheet_sound))]
     fn earliest(&self, m: MoveNumber) -> u32
         requires { Free (meaning self.now.sheet.now) (holds self.now.left) (number m) }
         ensures { result ≡ ready (meaning self.now.sheet.now) (number m) }
