@@ -3,7 +3,7 @@ use Rattle.std.proofs.Common.{◌≡◌, ℕ, ◌+◌, ◌<◌, ◌≤◌, Bool,
 use Rattle.finite.specs.Below.{sum, greatest}
 use Rattle.finite.proofs.Greatest.{greatest_above, greatest_least, greatest_is}
 use Rattle.finite.proofs.Sums.{sum_both, sum_mono}
-use Rattle.finite.proofs.Walks.{passed}
+use Rattle.finite.proofs.Walks.{sum_passed}
 use Rattle.moves.specs.Room.{room}
 use Rattle.sheet.specs.Chains.{Chain, leads, link, more}
 use Rattle.sheet.specs.Facts.{Sound}
@@ -15,9 +15,6 @@ use Rattle.sheet.proofs.Spans.{absent}
 use Rattle.sheet.specs.declared.figures.Move.{Move}
 use Rattle.rule.specs.Over.{through_from, over, OverLaw}
 use Rattle.rule.specs.Ready.{ready}
-use Rattle.moves.specs.Members.{holds}
-use Rattle.moves.specs.declared.set.MoveSet.{MoveSet}
-use Rattle.rule.proofs.Done.{sum_done}
 use Rattle.rule.proofs.Steps.{ready_absent}
 use Rattle.rule.proofs.Times.{ready_times_lem, ready_ahead}
 use Rattle.std.proofs.lemmas.Bool.{cases_Bool, cond-true, cond-false, lt-leb}
@@ -41,9 +38,9 @@ module _ (L : Ledger) (s : Sound L) where
   work_off t k off = let e : length_of L k ≡ 0 = ap (λ (f : Move). f.length) (absent (L.move k) off) in rw e (grind (arith, nat_tests))
 
   -- the work that was added up so far is within the span
-  pub work_short : (t : ℕ) (left : MoveSet) → sum_done left (adds L t) ≤ last_tick
-  unfolding sum_done
-  work_short t left = omega (arith, s.short, sum_mono room (passed (holds left) (adds L t)) (length_of L) (λ k _. grind (arith, nat_tests)))
+  pub work_short : (t : ℕ) (rest : ℕ → Bool) → sum_passed room rest (adds L t) ≤ last_tick
+  unfolding sum_passed
+  work_short t rest = omega (arith, s.short, sum_mono room (λ k. cond (rest k) 0 (adds L t k)) (length_of L) (λ k _. grind (arith, nat_tests)))
 
   -- what a move waits for is ready before it
   chain_earlier : {i j : ℕ} → Chain L.tie i j → ready L i < ready L j

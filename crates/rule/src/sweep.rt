@@ -85,7 +85,7 @@ impl<'a> Sweep<'a> {
     }
 
     // The ready time of a move that waits for none that is left.
-    #[tactic(auto, using(crate::proofs::Steps::finishes_off, crate::proofs::Times::ready_equation, crate::proofs::Done::comparing, sheet::proofs::Sheets::sheet_sound))]
+    #[tactic(auto, using(crate::proofs::Steps::finishes_off, crate::proofs::Times::ready_equation, finite::proofs::Walks::comparing, sheet::proofs::Sheets::sheet_sound))]
     fn earliest(&self, m: MoveNumber) -> u32
         requires { Free (meaning self.now.sheet.now) (holds self.now.left) (number m) }
         ensures { result ≡ ready (meaning self.now.sheet.now) (number m) }

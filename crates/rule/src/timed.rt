@@ -31,7 +31,7 @@ impl<'a> Timed<'a> {
     }
 
     // The tick by which one drive is through.
-    #[tactic(auto, using(crate::proofs::Done::comparing, sheet::proofs::Sheets::sheet_sound, crate::proofs::Ends::over_law), unfolding(crate::specs::Over::over))]
+    #[tactic(auto, using(finite::proofs::Walks::comparing, sheet::proofs::Sheets::sheet_sound, crate::proofs::Ends::over_law), unfolding(crate::specs::Over::over))]
     pub(crate) fn through(&self) -> u32
         ensures tick { result ≡ over (meaning self.now.sheet.now) }
         ensures law { OverLaw (meaning self.now.sheet.now) }
@@ -53,7 +53,7 @@ impl<'a> Timed<'a> {
     }
 
     // The lengths of all moves that are not ready before that tick.
-    #[tactic(auto, using(crate::proofs::Done::summing, crate::proofs::Ends::work_off, crate::proofs::Ends::work_short, sheet::proofs::Sheets::sheet_sound))]
+    #[tactic(auto, using(finite::proofs::Walks::summing, crate::proofs::Ends::work_off, crate::proofs::Ends::work_short, sheet::proofs::Sheets::sheet_sound))]
     fn work_from(&self, start: u32) -> u32
         ensures { result ≡ work_from (meaning self.now.sheet.now) start }
     {

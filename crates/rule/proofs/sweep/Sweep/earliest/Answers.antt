@@ -3,11 +3,12 @@ use Rattle.std.proofs.Common.{arith}
 use Rattle.moves.specs.Number.{number}
 use Rattle.sheet.specs.Ledger.{release_of}
 use Rattle.sheet.specs.Meaning.{meaning}
-use Rattle.rule.proofs.Done.{one_compared}
+use Rattle.finite.proofs.Walks.{greatest_passes}
 use Rattle.rule.proofs.Steps.{finishes}
 use Rattle.rule.proofs.sweep.Sweep.earliest.Goals as goal
 
 pub loop-i-preserved : goal.loop-i-preserved
 loop-i-preserved c =
     let L = meaning c.args.self.now.sheet.now in
-    omega (arith, c.max-time.ensures, c.finish.ensures, c.loop-i.invariant, one_compared c.in-Some.ensures.steps (finishes L (number c.args.m)) (release_of L (number c.args.m)))
+    let taken = c.in-Some.ensures.steps in
+    omega (arith, greatest_passes _ c.in-Some.i.below taken.held taken.rest (finishes L (number c.args.m)) (release_of L (number c.args.m)))

@@ -3,7 +3,7 @@ use Rattle.std.proofs.Common.{arith}
 use Rattle.std.proofs.lemmas.Bool.Decides.{nat_tests}
 use Rattle.moves.specs.Number.{number}
 use Rattle.sheet.specs.Meaning.{meaning}
-use Rattle.rule.proofs.Done.{one_compared}
+use Rattle.finite.proofs.Walks.{greatest_passes}
 use Rattle.rule.proofs.Ends.{through_at}
 use Rattle.rule.proofs.timed.Timed.through.Goals as goal
 
@@ -11,5 +11,5 @@ pub loop-j-preserved : goal.loop-j-preserved
 loop-j-preserved c =
     let taken = c.in-Some.ensures.steps in
     let here = c.loop-j.invariant.1 (number c.in-Some.j) taken.held in
-    let more = one_compared taken (through_at (meaning c.args.self.now.sheet.now)) 0 in
+    let more = greatest_passes _ c.in-Some.j.below taken.held taken.rest (through_at (meaning c.args.self.now.sheet.now)) 0 in
     (grind arith, λ k. grind (arith, nat_tests, taken.rest k, c.loop-j.invariant.1 k))

@@ -4,11 +4,12 @@ use Rattle.moves.specs.Members.{holds}
 use Rattle.moves.specs.Walk.{left_of}
 use Rattle.sheet.specs.Ledger.{on}
 use Rattle.sheet.specs.Meaning.{meaning}
-use Rattle.rule.proofs.Done.{greatest_done}
+use Rattle.finite.proofs.Walks.{greatest_passed}
+use Rattle.moves.specs.Room.{room}
 use Rattle.rule.proofs.Ends.{through_at}
 use Rattle.rule.proofs.timed.Timed.through.Given as goal
 
 abbrev pub invariant-loop-j : goal.invariant-loop-j
 invariant-loop-j l =
-    (l.latest ≡ greatest_done 0 (left_of l.j-iterator) (through_at (meaning l.self.sheet.now)))
+    (l.latest ≡ greatest_passed room (holds (left_of l.j-iterator)) 0 (through_at (meaning l.self.sheet.now)))
     × ((k : ℕ) → holds (left_of l.j-iterator) k ≡ true → on (meaning l.self.sheet.now) k ≡ true)

@@ -2,9 +2,11 @@
 use Rattle.std.proofs.Common.{◌≡◌}
 use Rattle.moves.specs.Walk.{left_of}
 use Rattle.sheet.specs.Meaning.{meaning}
-use Rattle.rule.proofs.Done.{sum_done}
+use Rattle.finite.proofs.Walks.{sum_passed}
+use Rattle.moves.specs.Members.{holds}
+use Rattle.moves.specs.Room.{room}
 use Rattle.rule.proofs.Ends.{adds}
 use Rattle.rule.proofs.timed.Timed.work_from.Given as goal
 
 abbrev pub invariant-loop-k : goal.invariant-loop-k
-invariant-loop-k l = l.work ≡ sum_done (left_of l.k-iterator) (adds (meaning l.self.sheet.now) l.start)
+invariant-loop-k l = l.work ≡ sum_passed room (holds (left_of l.k-iterator)) (adds (meaning l.self.sheet.now) l.start)
