@@ -6,6 +6,7 @@ use Rattle.sheet.specs.Facts.{Sound}
 use Rattle.sheet.specs.Ledger.{Ledger, on, length_of}
 use Rattle.time.specs.Ticks.{last_tick}
 use Rattle.sheet.specs.declared.figures.Move.{Move}
+use Rattle.sheet.proofs.Equations.{replicate_reads}
 use Rattle.sheet.proofs.Keeps.{tie_on}
 use Rattle.sheet.proofs.Spans.{absent}
 use Rattle.rule.specs.Ready.{ready, ReadyLaw}
@@ -113,12 +114,7 @@ module _ (L : Ledger) (s : Sound L) where
 -- ---- the table
 
 pub swept_begins : (L : Ledger) (s : Sound L) (left : ℕ → Bool) → ((k : ℕ) → left k ≡ on L k) → Swept L left (replicate room 0)
-swept_begins L s left all = record { places = refl; known = λ j h. zeros room j ∙ sym (ready_absent L s j (sym (all j) ∙ h)) }
-  where
-    zeros : (n j : ℕ) → ◌≡◌ {A = ℕ} (get_or (replicate n 0) j 0) 0
-    zeros zero j = refl
-    zeros (suc n) zero = refl
-    zeros (suc n) (suc j) = zeros n j
+swept_begins L s left all = record { places = refl; known = λ j h. replicate_reads room j 0 ∙ sym (ready_absent L s j (sym (all j) ∙ h)) }
 
 -- ---- the same of a sheet, as its sweep has them
 

@@ -9,8 +9,7 @@ use Rattle.sheet.specs.Ledger.{Ledger, on, nothing, figures, release_of, length_
 
 -- a move that is absent has no figures
 pub absent : (o : Option Move) → is_some o ≡ false → unwrap_or o nothing ≡ nothing
-absent (Some m) h = absurd (false≢true (sym h))
-absent None h = refl
+absent o h = grind arith
 
 module _ (n : ℕ) (m : Move) (L : Ledger) where
   -- the figures of the new move
