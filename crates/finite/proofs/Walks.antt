@@ -1,5 +1,5 @@
 -- A walk over some of the numbers below a bound, one after another: what was added up or compared so far is that of the numbers that are not in the rest.
-use Rattle.std.proofs.Common.{◌≡◌, ℕ, ◌+◌, ◌<◌, ◌≤◌, max, Bool, true, false, cond, not, ◌&&◌, eqb, ◌⊎◌, ◌∙◌, arith}
+use Rattle.std.proofs.Common.{◌≡◌, ℕ, ◌+◌, ◌<◌, max, Bool, true, false, cond, not, ◌&&◌, eqb, ◌⊎◌, ◌∙◌, arith}
 use Rattle.finite.specs.Below.{sum, greatest}
 use Rattle.finite.proofs.Greatest.{greatest_ext, greatest_least, greatest_put}
 use Rattle.finite.proofs.Sums.{sum_ext, sum_raised, sum_zero}

@@ -1,6 +1,6 @@
 -- One drive is through by the last tick: what a move waits for was ready earlier, so it is no part of the work that cannot begin before the move is ready.
 use Rattle.std.proofs.Common.{◌≡◌, ℕ, ◌+◌, ◌<◌, ◌≤◌, Bool, true, false, cond, leb, ◌⊎◌, ap, ◌∙◌, inl, inr, arith}
-use Rattle.finite.specs.Below.{sum, greatest}
+use Rattle.finite.specs.Below.{greatest}
 use Rattle.finite.proofs.Greatest.{greatest_above, greatest_least, greatest_is}
 use Rattle.finite.proofs.Sums.{sum_both, sum_mono}
 use Rattle.finite.proofs.Walks.{sum_passed}

@@ -1,5 +1,5 @@
 -- The steps of the sweep: some move left waits for no other that is left, and its ready time follows from those that are done.
-use Rattle.std.proofs.Common.{◌≡◌, ℕ, zero, suc, ◌+◌, ◌<◌, ◌≤◌, Bool, true, false, cond, not, ◌&&◌, ◌||◌, eqb, get_or, replicate, Some, None, Option, sym, refl, ap, ◌∙◌, subst, inl, inr, MatchOption}
+use Rattle.std.proofs.Common.{◌≡◌, ℕ, ◌+◌, ◌<◌, ◌≤◌, Bool, true, false, cond, not, ◌&&◌, ◌||◌, eqb, replicate, Some, None, Option, sym, refl, ap, ◌∙◌, subst, inl, inr, MatchOption}
 use Rattle.finite.proofs.Walks.{lacks}
 use Rattle.moves.specs.Room.{room}
 use Rattle.sheet.specs.Facts.{Sound}

@@ -7,7 +7,7 @@ use Rattle.finite.specs.Below.{any, count}
 use Rattle.moves.specs.Room.{room}
 use Rattle.sheet.specs.Chains.{Chain, link, more, leads_in, leads}
 use Rattle.std.proofs.lemmas.Bool.Decides.{nat_tests}
-use Rattle.std.proofs.lemmas.Bool.{and_from, and_parts, both_ways, eqb-true, or_cases, or_left, or_right}
+use Rattle.std.proofs.lemmas.Bool.{and_from, and_parts, both_ways, or_cases, or_left, or_right}
 
 -- both numbers of every tie are below room
 abbrev pub Within : (ℕ → ℕ → Bool) → Type 0
@@ -128,11 +128,6 @@ chain_trans (more e c) d = more e (chain_trans c d)
 pub chain_start : {tie : ℕ → ℕ → Bool} {i j : ℕ} → Chain tie i j → (k : ℕ) × (tie i k ≡ true)
 chain_start (link {j = j} e) = (j, e)
 chain_start (more {k = k} e c) = (k, e)
-
--- a chain ends with a tie
-pub chain_end : {tie : ℕ → ℕ → Bool} {i j : ℕ} → Chain tie i j → (k : ℕ) × (tie k j ≡ true)
-chain_end (link {i = i} e) = (i, e)
-chain_end (more e c) = chain_end c
 
 -- with more ties a chain stays one
 pub chain_mono : {t u : ℕ → ℕ → Bool} {i j : ℕ} → ((a b : ℕ) → t a b ≡ true → u a b ≡ true) → Chain t i j → Chain u i j

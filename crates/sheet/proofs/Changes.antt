@@ -1,4 +1,4 @@
--- The four changes of a sheet: what the changed entries mean, and that they keep what every sheet keeps. The first part of each conclusion shows `grind` the call to match.
+-- What the entries of a changed sheet mean, and that they keep what every sheet keeps: the first part of each conclusion shows `grind` the call to match.
 use Rattle.std.proofs.Common.{◌≡◌, ℕ, ◌<◌, ◌≤◌, true, false, ◌&&◌, ◌||◌, eqb, length, set, replicate, is_some, Some, None, Option, arith}
 use Rattle.moves.specs.Room.{room}
 use Rattle.sheet.specs.declared.sheet.Sheet.{Sheet}
@@ -15,14 +15,16 @@ use Rattle.sheet.proofs.Equations.{blank_parts, entered_parts, tied_parts, sound
 use Rattle.sheet.proofs.Keeps.{blank_sound, entered_sound, open_sound}
 use Rattle.sheet.proofs.Spans.{span_entered}
 
+-- the sheet with no move
 pub unused_parts : (ledger_of (replicate room None) ≡ blank) × Sound (ledger_of (replicate room None))
 unused_parts = (blank_parts room, sound_as (blank_parts room) blank_sound)
 
--- a move is put into its place
+-- an entry is put into its place
 module _ (s : Sheet) (n place : ℕ) (at : place ≡ n) (low : n < room) (new : Option Entry) where
   fits : n < length s.entries
   fits = omega (arith, s.places, low)
 
+  -- that of one move more
   pub with_move_parts : (figures : Move) → figures_in new ≡ Some figures → ((b : ℕ) → waits_in new b ≡ false) → on (meaning s) n ≡ false → ranged figures ≡ true → span_with (meaning s) figures ≤ last_tick
       → (ledger_of (set s.entries place new) ≡ entered n figures (meaning s)) × Sound (ledger_of (set s.entries place new))
   with_move_parts figures is none free good short =
@@ -30,6 +32,7 @@ module _ (s : Sheet) (n place : ℕ) (at : place ≡ n) (low : n < room) (new : 
       (e, sound_as e (entered_sound n figures (meaning s) (sheet_sound s) low good (omega (arith, span_entered n figures (meaning s) low free))))
 
   module _ (old : Option Entry) (was : old ≡ entry_at s.entries n) (j : ℕ) (same : figures_in new ≡ figures_in old) where
+    -- that of the same move, with one tie more
     pub with_tie_parts : ((b : ℕ) → waits_in new b ≡ (is_some old && (eqb b j || waits_in old b))) → on (meaning s) n ≡ true → on (meaning s) j ≡ true → closes (meaning s).tie n j ≡ false
         → (ledger_of (set s.entries place new) ≡ tied n j (meaning s)) × Sound (ledger_of (set s.entries place new))
     with_tie_parts more here there open' =

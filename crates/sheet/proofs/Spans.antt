@@ -1,6 +1,6 @@
 -- One move more makes the span the greater of the releases and one length more.
-use Rattle.std.proofs.Common.{◌≡◌, ℕ, ◌<◌, false, cond, is_some, Some, None, Option, unwrap_or, sym, refl, ap, arith}
-use Rattle.std.proofs.lemmas.Bool.{false≢true, eq-eqb, ne_eqb}
+use Rattle.std.proofs.Common.{◌≡◌, ℕ, ◌<◌, false, cond, is_some, Some, Option, unwrap_or, refl, ap, arith}
+use Rattle.std.proofs.lemmas.Bool.{eq-eqb, ne_eqb}
 use Rattle.finite.proofs.Greatest.{greatest_put}
 use Rattle.finite.proofs.Sums.{sum_raised}
 use Rattle.moves.specs.Room.{room}

@@ -1,8 +1,7 @@
 -- Each turn adds the work of one more move; all of it is within the span of the sheet.
-use Rattle.std.proofs.Common.{◌≡◌, ◌+◌, arith}
-use Rattle.finite.proofs.Walks.{sum_passed, sum_passes}
+use Rattle.std.proofs.Common.{arith}
+use Rattle.finite.proofs.Walks.{sum_passes}
 use Rattle.moves.specs.Members.{holds}
-use Rattle.moves.specs.Room.{room}
 use Rattle.moves.specs.Walk.{left_of}
 use Rattle.sheet.specs.Meaning.{meaning}
 use Rattle.sheet.proofs.Sheets.{sheet_sound}
