@@ -1,15 +1,24 @@
 -- The steps of the sweep: some move left waits for no other that is left, and its ready time follows from those that are done.
-use Rattle.std.proofs.Common.{◌≡◌, ℕ, zero, suc, ◌+◌, ◌<◌, ◌≤◌, Bool, true, false, cond, not, ◌&&◌, ◌||◌, eqb, get_or, replicate, Some, None, Option, sym, refl, ap, ◌∙◌, subst, inl, inr, MatchOption}
+use Rattle.std.proofs.Common.{◌≡◌, ℕ, ◌+◌, ◌<◌, ◌≤◌, Bool, true, false, cond, not, ◌&&◌, ◌||◌, eqb, replicate, Some, None, Option, sym, refl, ap, ◌∙◌, subst, inl, inr, MatchOption}
 use Rattle.finite.proofs.Walks.{lacks}
 use Rattle.moves.specs.Room.{room}
 use Rattle.sheet.specs.Facts.{Sound}
 use Rattle.sheet.specs.Ledger.{Ledger, on, length_of}
 use Rattle.time.specs.Ticks.{last_tick}
 use Rattle.sheet.specs.declared.figures.Move.{Move}
+use Rattle.sheet.proofs.Equations.{replicate_reads}
 use Rattle.sheet.proofs.Keeps.{tie_on}
 use Rattle.sheet.proofs.Spans.{absent}
 use Rattle.rule.specs.Ready.{ready, ReadyLaw}
-use Rattle.rule.specs.Sweep.{Swept}
+use Rattle.rule.specs.Sweep.{Swept, Free}
+use Rattle.moves.specs.Members.{holds, Holds, HoldsNone, Lowest}
+use Rattle.moves.specs.Number.{number}
+use Rattle.moves.specs.declared.number.MoveNumber.{MoveNumber}
+use Rattle.moves.specs.declared.set.MoveSet.{MoveSet}
+use Rattle.moves.proofs.Sets.{holds_below}
+use Rattle.sheet.specs.declared.sheet.Sheet.{Sheet}
+use Rattle.sheet.specs.Meaning.{meaning}
+use Rattle.sheet.proofs.Sheets.{sheet_sound}
 use Rattle.rule.proofs.Rank.{source}
 use Rattle.rule.proofs.Times.{next_free, ready_equation, ready_times_lem, ready_unique, ready_within}
 use Rattle.std.proofs.lemmas.Bool.{and_cases, and_parts, both_ways, cases_Bool, cond-false, not-false, or_cases, or_left, or_right}
@@ -105,9 +114,24 @@ module _ (L : Ledger) (s : Sound L) where
 -- ---- the table
 
 pub swept_begins : (L : Ledger) (s : Sound L) (left : ℕ → Bool) → ((k : ℕ) → left k ≡ on L k) → Swept L left (replicate room 0)
-swept_begins L s left all = record { places = refl; known = λ j h. zeros room j ∙ sym (ready_absent L s j (sym (all j) ∙ h)) }
-  where
-    zeros : (n j : ℕ) → ◌≡◌ {A = ℕ} (get_or (replicate n 0) j 0) 0
-    zeros zero j = refl
-    zeros (suc n) zero = refl
-    zeros (suc n) (suc j) = zeros n j
+swept_begins L s left all = record { places = refl; known = λ j h. replicate_reads room j 0 ∙ sym (ready_absent L s j (sym (all j) ∙ h)) }
+
+-- ---- the same of a sheet, as its sweep has them
+
+module _ (s : Sheet) where
+  pub sheet_begins : (left : MoveSet) → ((k : ℕ) → holds left k ≡ on (meaning s) k) → Swept (meaning s) (holds left) (replicate room 0)
+  sheet_begins left all = swept_begins (meaning s) (sheet_sound s) (holds left) all
+
+  -- the first part shows `grind` the call to match
+  pub sheet_law : (meaning s ≡ meaning s) × ReadyLaw (meaning s)
+  sheet_law = (refl, ready_law (meaning s) (sheet_sound s))
+
+  -- the lowest of the moves that are left and not held up, where there is one
+  pub sheet_free : (left held free : MoveSet) (r : Option MoveNumber) → ((k : ℕ) → holds held k ≡ true → (i : ℕ) × (holds left i ≡ true) × ((meaning s).tie i k ≡ true))
+      → ((i k : ℕ) → holds left i ≡ true → (meaning s).tie i k ≡ true → holds held k ≡ true) → Holds free (λ k. holds left k && not (holds held k)) → MatchOption r (HoldsNone free) (λ m. Lowest free (number m))
+      → MatchOption r ((k : ℕ) → holds left k ≡ false) (λ m. (holds left (number m) ≡ true) × Free (meaning s) (holds left) (number m))
+  sheet_free left held free r some all each first =
+      cases_map r
+      (λ none. none_free (meaning s) (sheet_sound s) (holds left) (holds held) (holds free) some each.held (holds_below left) none.held)
+      (λ m low. free_waits (meaning s) (sheet_sound s) (holds left) (holds held) (holds free) some each.held all (number m) low.held)
+      first

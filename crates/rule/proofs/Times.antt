@@ -69,8 +69,7 @@ next_earliest L f j =
 
 -- a number that is made only where a test passes
 cond_from_elim : (b : Bool) (x : ℕ) → elim b [ true ↦ x | false ↦ 0 ] ≡ cond b x 0
-cond_from_elim true x = refl
-cond_from_elim false x = refl
+cond_from_elim b x = grind arith
 
 -- with one more tie looked at, a ready time comes from those before
 ready_in_suc : (L : Ledger) (n j : ℕ) → ready_in L (suc n) j ≡ next L (ready_in L n) j

@@ -24,7 +24,7 @@ struct Sweep<'a> {
 }
 
 // The ready times of the sheet: at most n turns for n moves, with at most n steps each.
-#[tactic(auto, using(moves::proofs::Sets::length_without))]
+#[tactic(auto, using(moves::proofs::Sets::length_without, crate::proofs::Steps::sheet_law))]
 pub(crate) fn swept(sheet: &Sheet) -> ReadyTable
     ensures times { Tabled (meaning sheet.now) result }
     ensures law { ReadyLaw (meaning sheet.now) }
@@ -38,6 +38,7 @@ pub(crate) fn swept(sheet: &Sheet) -> ReadyTable
 
 impl<'a> Sweep<'a> {
     // The sweep before its first turn.
+    #[tactic(auto, using(crate::proofs::Steps::sheet_begins))]
     fn new(sheet: &'a Sheet) -> Sweep<'a>
         ensures { result.sheet.now ≡ sheet.now }
     {

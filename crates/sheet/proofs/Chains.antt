@@ -6,7 +6,8 @@ use Rattle.finite.proofs.Sums.{count_le, count_same_or_less}
 use Rattle.finite.specs.Below.{any, count}
 use Rattle.moves.specs.Room.{room}
 use Rattle.sheet.specs.Chains.{Chain, link, more, leads_in, leads}
-use Rattle.std.proofs.lemmas.Bool.{and_from, and_parts, both_ways, eqb-true, or_cases, or_left, or_right}
+use Rattle.std.proofs.lemmas.Bool.Decides.{nat_tests}
+use Rattle.std.proofs.lemmas.Bool.{and_from, and_parts, both_ways, or_cases, or_left, or_right}
 
 -- both numbers of every tie are below room
 abbrev pub Within : (ℕ → ℕ → Bool) → Type 0
@@ -19,8 +20,7 @@ leads_in_zero tie i j = refl
 
 -- a test that is made only where another passes is the two together
 both_from_elim : (b c : Bool) → elim b [ true ↦ c | false ↦ false ] ≡ (b && c)
-both_from_elim true c = refl
-both_from_elim false c = refl
+both_from_elim b c = grind arith
 
 -- a chain of at most n + 1 ties is a tie, or a tie and a chain of at most n
 leads_in_suc : (tie : ℕ → ℕ → Bool) (n i j : ℕ) → leads_in tie (suc n) i j ≡ (tie i j || any room (λ k. tie i k && leads_in tie n k j))
@@ -129,11 +129,6 @@ pub chain_start : {tie : ℕ → ℕ → Bool} {i j : ℕ} → Chain tie i j →
 chain_start (link {j = j} e) = (j, e)
 chain_start (more {k = k} e c) = (k, e)
 
--- a chain ends with a tie
-pub chain_end : {tie : ℕ → ℕ → Bool} {i j : ℕ} → Chain tie i j → (k : ℕ) × (tie k j ≡ true)
-chain_end (link {i = i} e) = (i, e)
-chain_end (more e c) = chain_end c
-
 -- with more ties a chain stays one
 pub chain_mono : {t u : ℕ → ℕ → Bool} {i j : ℕ} → ((a b : ℕ) → t a b ≡ true → u a b ≡ true) → Chain t i j → Chain u i j
 chain_mono h (link {i = i} {j = j} e) = link (h i j e)
@@ -153,11 +148,7 @@ Parted t i j a b = Chain t a b ⊎ (Reaches t a i × Reaches t j b)
 
 -- a tie, with one from i to j added, is the new one or an old one
 added_cases : (t : ℕ → ℕ → Bool) (i j a b : ℕ) → added t i j a b ≡ true → ((a ≡ i) × (b ≡ j)) ⊎ (t a b ≡ true)
-added_cases t i j a b e =
-    elim (or_cases (eqb a i && eqb b j) (t a b) e) [
-      | inl new ↦ let parts = and_parts (eqb a i) (eqb b j) new in inl (eqb-true a i parts.0, eqb-true b j parts.1)
-      | inr old ↦ inr old
-    ]
+added_cases t i j a b e = grind (arith, nat_tests)
 
 -- the parts of a chain of one tie
 parted_link : (t : ℕ → ℕ → Bool) (i j a b : ℕ) → added t i j a b ≡ true → Parted t i j a b

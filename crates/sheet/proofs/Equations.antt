@@ -1,6 +1,7 @@
 -- What the entries of a sheet mean, and what they mean after a change at one place.
-use Rattle.std.proofs.Common.{◌≡◌, ℕ, zero, suc, ◌<◌, true, false, cond, not, ◌&&◌, ◌||◌, eqb, List, length, set, replicate, is_some, Some, None, Option, sym, refl, ap, ◌∙◌, subst, inl, inr, get_or-set_other, get_or-set_same}
-use Rattle.std.proofs.lemmas.Bool.{cases_eq, eq-eqb, ne_eqb, false≢true}
+use Rattle.std.proofs.Common.{◌≡◌, ℕ, ◌<◌, true, false, cond, not, ◌&&◌, ◌||◌, eqb, List, length, get_or, arith, set, replicate, is_some, Some, None, Option, sym, refl, ap, ◌∙◌, subst, inl, inr, get_or-set_other, get_or-set_same}
+use Rattle.std.proofs.lemmas.Bool.{cases_eq, cases_lt, eq-eqb, ne_eqb}
+use Rattle.std.proofs.lemmas.List.{get_or-replicate, get_or_past, length-replicate}
 use Rattle.sheet.specs.declared.entry.Entry.{Entry}
 use Rattle.sheet.specs.declared.figures.Move.{Move}
 use Rattle.sheet.specs.Facts.{Sound}
@@ -24,21 +25,24 @@ module _ (entries : List (Option Entry)) where
   -- a move is on the sheet where there is an entry
   pub on_of : (n : ℕ) → on (ledger_of entries) n ≡ is_some (entry_at entries n)
   unfolding ledger_of
-  on_of n = either (entry_at entries n)
-    where
-      either : (o : Option Entry) → is_some (figures_in o) ≡ is_some o
-      either (Some e) = refl
-      either None = refl
+  on_of n = grind arith
+
+-- a list of one value reads so everywhere, where what is read past its end is that value too
+pub replicate_reads : {A : Type 0} (n k : ℕ) (a : A) → get_or (replicate n a) k a ≡ a
+replicate_reads n k a =
+    elim (cases_lt k n) [
+      | inl l ↦ get_or-replicate n k a a l
+      | inr g ↦ get_or_past (replicate n a) k a (omega (arith, length-replicate n a))
+    ]
 
 -- no entry at any number is the blank ledger
 pub blank_parts : (n : ℕ) → ledger_of (replicate n None) ≡ blank
 unfolding ledger_of
-blank_parts n = same_ledger _ _ (λ k. ap figures_in (none n k)) (λ i j. ap (λ o. waits_in o j) (none n i))
-  where
-    none : (n k : ℕ) → entry_at (replicate n None) k ≡ None
-    none zero k = refl
-    none (suc n) zero = refl
-    none (suc n) (suc k) = none n k
+blank_parts n = same_ledger _ _ (λ k. ap figures_in (replicate_reads n k None)) (λ i j. ap (λ o. waits_in o j) (replicate_reads n i None))
+
+-- where there is no move, none waits
+alone : (o : Option Entry) (b : ℕ) → is_some (figures_in o) ≡ false → waits_in o b ≡ false
+alone o b h = grind arith
 
 -- an entry is put into its place
 module _ (entries : List (Option Entry)) (n place : ℕ) (at : place ≡ n) (fits : n < length entries) (new : Option Entry) where
@@ -57,11 +61,7 @@ module _ (entries : List (Option Entry)) (n place : ℕ) (at : place ≡ n) (fit
   unfolding ledger_of
   entered_parts m is none free =
       same_ledger _ _ (place_set figures_in (λ k. cond (eqb k n) (Some m) (figures_in (entry_at entries k))) (rw (eq-eqb n n refl) is) (λ k ne. rw (ne_eqb k n ne) refl))
-      (λ a b. place_set (λ o. waits_in o b) (λ k. waits_in (entry_at entries k) b) (none b ∙ sym (alone (entry_at entries n) free b)) (λ k ne. refl) a)
-    where
-      alone : (o : Option Entry) → is_some (figures_in o) ≡ false → (b : ℕ) → waits_in o b ≡ false
-      alone (Some e) h b = absurd (false≢true (sym h))
-      alone None h b = refl
+      (λ a b. place_set (λ o. waits_in o b) (λ k. waits_in (entry_at entries k) b) (none b ∙ sym (alone (entry_at entries n) b free)) (λ k ne. refl) a)
 
   module _ (old : Option Entry) (was : old ≡ entry_at entries n) (j : ℕ) (same : figures_in new ≡ figures_in old) where
     same_moves : (k : ℕ) → figures_in (entry_at (set entries place new) k) ≡ figures_in (entry_at entries k)

@@ -1,7 +1,8 @@
 -- Taking one and the same move out of one entry after another: the entries that were visited are without it, the others as before.
-use Rattle.std.proofs.Common.{◌≡◌, ℕ, ◌+◌, ◌<◌, ◌≤◌, Bool, true, false, not, ◌&&◌, eqb, List, length, set, None, Option, sym, refl, ap, ◌∙◌, inl, inr, arith, get_or-set_other, get_or-set_same}
+use Rattle.std.proofs.Common.{◌≡◌, ℕ, ◌+◌, ◌<◌, ◌≤◌, not, ◌&&◌, eqb, List, length, set, None, Option, sym, refl, ap, ◌∙◌, inl, inr, arith, get_or-set_other, get_or-set_same}
 use Rattle.std.proofs.lemmas.Bool.{cases_eq, cases_lt}
 use Rattle.std.proofs.lemmas.List.{get_or_past}
+use Rattle.std.proofs.Math.Bool.{and-false}
 use Rattle.sheet.specs.declared.entry.Entry.{Entry}
 use Rattle.sheet.specs.Ledger.{struck}
 use Rattle.sheet.specs.Parts.{entry_at, figures_in, waits_in, ledger_of}
@@ -38,12 +39,8 @@ free_all : (m : ℕ) (old now : List (Option Entry)) (i : ℕ) → Freed m old i
 free_all m old now i f fits k b =
     elim (cases_lt k i) [
       | inl l ↦ f.done k b l
-      | inr g ↦ rw (f.rest k g, get_or_past old k None (omega arith)) (sym (nothing (not (eqb b m))))
+      | inr g ↦ rw (f.rest k g, get_or_past old k None (omega arith)) (sym (and-false (not (eqb b m))))
     ]
-  where
-    nothing : (t : Bool) → (t && false) ≡ false
-    nothing true = refl
-    nothing false = refl
 
 -- at the end the entry of the move goes too
 pub free_ends : (m : ℕ) (old now : List (Option Entry)) (i place : ℕ) → Freed m old i now → length old ≤ i → place ≡ m → m < length now

@@ -1,6 +1,6 @@
 -- What every sheet keeps is kept by each accepted call, since a call touches one move or one tie and the rest reads as before.
 use Rattle.std.proofs.Common.{◌≡◌, ℕ, ◌<◌, ◌≤◌, Bool, true, false, cond, not, ◌&&◌, ◌||◌, eqb, ltb, leb, List, [], ◌∷◌, is_some, Some, None, Option, unwrap_or, refl, inl, inr, arith}
-use Rattle.std.proofs.lemmas.Bool.{false≢true, and_parts, and_from, or_cases, or_parts, eqb-true, eqb-false, not-false, ltb-false, leb-false, both_ways}
+use Rattle.std.proofs.lemmas.Bool.{cases_eq, ne_eqb, false≢true, and_parts, and_from, or_cases, or_parts, eqb-true, eqb-false, not-false, ltb-false, leb-false, both_ways}
 use Rattle.finite.specs.Below.{sum, greatest}
 use Rattle.finite.proofs.Greatest.{greatest_least, greatest_above}
 use Rattle.finite.proofs.Sums.{sum_mono}
@@ -38,24 +38,18 @@ tie_within L s i j e = let both = tie_on L s i j e in (s.numbered i both.0, s.nu
 -- a new move with figures in their ranges, within the span
 pub entered_sound : (n : ℕ) (m : Move) (L : Ledger) → Sound L → n < room → ranged m ≡ true → InSpan (entered n m L) → Sound (entered n m L)
 entered_sound n m L s low good short = record {
-  numbered = λ k. numbered k (eqb k n) refl;
-  ranges = λ k. ranges (eqb k n) (L.move k) (s.ranges k);
+  numbered = λ k h. elim (cases_eq k n) [ inl e ↦ omega arith | inr ne ↦ s.numbered k (rw (ne_eqb k n ne) at h) ];
+  ranges = λ k h. ranges (eqb k n) (L.move k) (s.ranges k) h;
   ends = λ i j h. let p = and_parts (on L i) (on L j) (s.ends i j h) in and_from _ _ (still (eqb i n) (L.move i) p.0) (still (eqb j n) (L.move j) p.1);
   acyclic = s.acyclic;
   short = short;
 }
   where
     still : (b : Bool) (o : Option Move) → is_some o ≡ true → is_some (cond b (Some m) o) ≡ true
-    still true o h = refl
-    still false o h = h
-
-    numbered : (k : ℕ) (b : Bool) → eqb k n ≡ b → is_some (cond b (Some m) (L.move k)) ≡ true → k < room
-    numbered k true e h = omega (arith, eqb-true k n e)
-    numbered k false e h = s.numbered k h
+    still b o h = grind arith
 
     ranges : (b : Bool) (o : Option Move) → (is_some o ≡ true → ranged (unwrap_or o nothing) ≡ true) → is_some (cond b (Some m) o) ≡ true → ranged (unwrap_or (cond b (Some m) o) nothing) ≡ true
-    ranges true o g h = good
-    ranges false o g h = g h
+    ranges b o g h = grind (arith, good)
 
 -- a tie between two moves of the sheet that closes no chain
 pub tied_sound : (i j : ℕ) (L : Ledger) → Sound L → on L i ≡ true → on L j ≡ true → (i ≡ j → ⊥) → (Chain L.tie j i → ⊥) → Sound (tied i j L)
@@ -99,29 +93,22 @@ struck_sound n L s = record {
 }
   where
     was : (b : Bool) (o : Option Move) → is_some (cond b None o) ≡ true → is_some o ≡ true
-    was true o h = absurd (false≢true h)
-    was false o h = h
+    was b o h = grind arith
 
     still : (b c : Bool) (o : Option Move) → not (b || c) ≡ true → is_some o ≡ true → is_some (cond b None o) ≡ true
-    still true c o e h = absurd (false≢true e)
-    still false c o e h = h
+    still b c o e h = grind arith
 
     still' : (c b : Bool) (o : Option Move) → not (c || b) ≡ true → is_some o ≡ true → is_some (cond b None o) ≡ true
-    still' true b o e h = absurd (false≢true e)
-    still' false true o e h = absurd (false≢true e)
-    still' false false o e h = h
+    still' c b o e h = grind arith
 
     ranges : (b : Bool) (o : Option Move) → (is_some o ≡ true → ranged (unwrap_or o nothing) ≡ true) → is_some (cond b None o) ≡ true → ranged (unwrap_or (cond b None o) nothing) ≡ true
-    ranges true o g h = absurd (false≢true h)
-    ranges false o g h = g h
+    ranges b o g h = grind arith
 
     shorter : (b : Bool) (o : Option Move) → (unwrap_or (cond b None o) nothing).length ≤ (unwrap_or o nothing).length
-    shorter true o = omega arith
-    shorter false o = omega arith
+    shorter b o = grind arith
 
     earlier : (b : Bool) (o : Option Move) → (unwrap_or (cond b None o) nothing).release ≤ (unwrap_or o nothing).release
-    earlier true o = omega arith
-    earlier false o = omega arith
+    earlier b o = grind arith
 
 -- where no refusal of a list of tests is given, the first test failed and none of the later ones gives one
 pub passes : (test : Bool) (n : ℕ) (later : Option ℕ) → cond test (Some n) later ≡ None → (test ≡ false) × (later ≡ None)

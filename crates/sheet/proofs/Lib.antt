@@ -3,6 +3,7 @@ pub mod Keeps
 pub mod Reach
 pub mod Replays
 pub mod Equations
+pub mod Changes
 pub mod Sheets
 pub mod Spans
 pub mod Gathers

@@ -26,19 +26,25 @@ search_begins L s first unseen all = record {
   seen = λ x k u t. absurd (both_ways (unseen x) u (all x ∙ (and_parts (on L x) (on L k) (s.ends x k t)).0));
 }
 
-module _ (tie : ℕ → ℕ → Bool) (first found unseen : ℕ → Bool) where
-  -- one tie more
-  led_on : (m k : ℕ) → Led tie first m → tie m k ≡ true → Led tie first k
-  led_on m k (inl h) t = inr (m, h, link t)
-  led_on m k (inr w) t = inr (w.0, w.1, chain_trans w.2 (link t))
+-- one tie more
+led_on : (tie : ℕ → ℕ → Bool) (first : ℕ → Bool) (m k : ℕ) → Led tie first m → tie m k ≡ true → Led tie first k
+led_on tie first m k (inl h) t = inr (m, h, link t)
+led_on tie first m k (inr w) t = inr (w.0, w.1, chain_trans w.2 (link t))
 
-  -- one move of those found is seen, and what it is tied to is found
-  pub search_goes_on : (m : ℕ) (row found' unseen' : ℕ → Bool) → Searched tie first found unseen → found m ≡ true → ((k : ℕ) → row k ≡ tie m k)
-      → ((k : ℕ) → found' k ≡ (found k || row k)) → ((k : ℕ) → unseen' k ≡ (not (eqb k m) && unseen k)) → Searched tie first found' unseen'
-  search_goes_on m row found' unseen' s has ties more' less = record {
+-- a closed set has what a chain from one of its members leads to
+closed_chain : {tie : ℕ → ℕ → Bool} {found : ℕ → Bool} → ((x k : ℕ) → found x ≡ true → tie x k ≡ true → found k ≡ true) → {x k : ℕ} → found x ≡ true → Chain tie x k → found k ≡ true
+closed_chain closed h (link t) = closed _ _ h t
+closed_chain closed h (more t c) = closed_chain closed (closed _ _ h t) c
+
+-- the moves that were found and not seen are the ones to go on from
+module _ {tie : ℕ → ℕ → Bool} {first found unseen both : ℕ → Bool} (s : Searched tie first found unseen) (each : (k : ℕ) → both k ≡ (found k && unseen k)) where
+  -- one of them is seen, and what it is tied to is found
+  pub search_goes_on : {row found' unseen' : ℕ → Bool} (m : ℕ) → both m ≡ true → ((k : ℕ) → row k ≡ tie m k) → ((k : ℕ) → found' k ≡ (found k || row k))
+      → ((k : ℕ) → unseen' k ≡ (not (eqb k m) && unseen k)) → Searched tie first found' unseen'
+  search_goes_on {row = row} {found' = found'} {unseen' = unseen'} m next ties more' less = record {
     led = λ k h. elim (or_cases (found k) (row k) (sym (more' k) ∙ h)) [
       | inl f ↦ s.led k f
-      | inr r ↦ led_on m k (s.led m has) (sym (ties k) ∙ r)
+      | inr r ↦ led_on tie first m k (s.led m (and_parts (found m) (unseen m) (sym (each m) ∙ next)).0) (sym (ties k) ∙ r)
     ];
     begun = λ k h. old k (s.begun k h);
     seen = λ x k u t. elim (lacks unseen unseen' m x less u) [
@@ -50,24 +56,16 @@ module _ (tie : ℕ → ℕ → Bool) (first found unseen : ℕ → Bool) where
       old : (k : ℕ) → found k ≡ true → found' k ≡ true
       old k h = more' k ∙ or_left (found k) (row k) h
 
-  -- a closed set has what a chain from one of its members leads to
-  closed_chain : ((x k : ℕ) → found x ≡ true → tie x k ≡ true → found k ≡ true) → {x k : ℕ} → found x ≡ true → Chain tie x k → found k ≡ true
-  closed_chain closed h (link t) = closed _ _ h t
-  closed_chain closed h (more t c) = closed_chain closed (closed _ _ h t) c
-
-  -- where all that was found was seen, what was found is all to which ties lead
-  pub search_ends : Searched tie first found unseen → (i : ℕ) → Within tie → ((k : ℕ) → first k ≡ tie i k) → ((k : ℕ) → (found k && unseen k) ≡ false) → (k : ℕ) → found k ≡ leads tie i k
-  search_ends s i within starts done k = same_from_decides (found k) (leads tie i k) (sure, all) (decides tie i k within)
+  -- where there are none, what was found is all to which ties lead
+  pub search_ends : (i : ℕ) → Within tie → ((k : ℕ) → first k ≡ tie i k) → ((k : ℕ) → both k ≡ false) → (k : ℕ) → found k ≡ leads tie i k
+  search_ends i within starts none k = same_from_decides (found k) (leads tie i k) (sure, all) (decides tie i k within)
     where
       sure : found k ≡ true → Chain tie i k
       sure h = elim (s.led k h) [ inl f ↦ link (sym (starts k) ∙ f) | inr w ↦ more (sym (starts w.0) ∙ w.1) w.2 ]
 
       closed : (x y : ℕ) → found x ≡ true → tie x y ≡ true → found y ≡ true
-      closed x y h t = elim (and_cases (found x) (unseen x) (done x)) [ inl f ↦ absurd (both_ways (found x) f h) | inr u ↦ s.seen x y u t ]
+      closed x y h t = elim (and_cases (found x) (unseen x) (sym (each x) ∙ none x)) [ inl f ↦ absurd (both_ways (found x) f h) | inr u ↦ s.seen x y u t ]
 
       all : Chain tie i k → found k ≡ true
       all (link t) = s.begun k (starts k ∙ t)
       all (more {k = j} t c) = closed_chain closed (s.begun j (starts j ∙ t)) c
-
--- the steps of the search
-pub ruleset searching = (search_begins, search_goes_on, search_ends)

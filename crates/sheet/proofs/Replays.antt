@@ -40,30 +40,33 @@ pub record Ran (cs : List Call) (L : Ledger) (old : List (Result (Unit {0}) Refu
   pub answers : (k : ℕ) → k < i → k < length new → refused (get_or new k (Ok tt)) ≡ get_or (answered cs L) k None
   pub later : drop i new ≡ drop i old
 
-pub ran_begins : (cs : List Call) (L : Ledger) (old : List (Result (Unit {0}) Refusal)) → Ran cs L old L old 0
+pub ran_begins : {cs : List Call} {L : Ledger} {old : List (Result (Unit {0}) Refusal)} → Ran cs L old L old 0
 unfolding fed
-ran_begins cs L old = record { ledger = refl; answers = λ k h. absurd (omega arith); later = refl }
+ran_begins = record { ledger = refl; answers = λ k h. absurd (omega arith); later = refl }
 
--- one call more is made, and its answer is written where there is a place for it
-pub ran_goes_on : (cs : List Call) (L : Ledger) (old : List (Result (Unit {0}) Refusal)) (M N : Ledger) (new : List (Result (Unit {0}) Refusal)) (i : ℕ) (d : Call) (r : Result (Unit {0}) Refusal)
-    → Ran cs L old M new i → i < length cs → N ≡ feed (get_or cs i d) M → refused r ≡ refusal (get_or cs i d) M → Ran cs L old N (set new i r) (i + 1)
-ran_goes_on cs L old M N new i d r s more next answer = record {
-  ledger = rw add-one (next ∙ ap (feed (get_or cs i d)) s.ledger ∙ sym (fed_next cs i d L more));
-  answers = λ k h l. let low : k < length new = rw length-set at l in elim (cases_eq k i) [
-    | inl e ↦ rw e (ap refused (get_or-set_same new i r (Ok tt) (omega arith)) ∙ answer ∙ ap (refusal (get_or cs i d)) s.ledger ∙ sym (answered_at cs i d L more))
-    | inr ne ↦ ap refused (get_or-set_other new i k r (Ok tt) ne) ∙ s.answers k (omega arith) low
-  ];
-  later = drop-set-lt (i + 1) new i r (omega arith) ∙ sym (drop-drop 1 i new) ∙ ap (drop 1) s.later ∙ drop-drop 1 i old;
-}
+module _ {cs : List Call} {L M : Ledger} {old new : List (Result (Unit {0}) Refusal)} {i : ℕ} (s : Ran cs L old M new i) where
+  -- one call more is made, and its answer is written where there is a place for it
+  pub ran_goes_on : {N : Ledger} {now : List (Result (Unit {0}) Refusal)} (r : Result (Unit {0}) Refusal) (d : Call) → i < length cs → N ≡ feed (get_or cs i d) M → refused r ≡ refusal (get_or cs i d) M
+      → now ≡ set new i r → Ran cs L old N now (i + 1)
+  ran_goes_on r d more next answer put = rw put (record {
+    ledger = rw add-one (next ∙ ap (feed (get_or cs i d)) s.ledger ∙ sym (fed_next cs i d L more));
+    answers = λ k h l. let low : k < length new = rw length-set at l in elim (cases_eq k i) [
+      | inl e ↦ rw e (ap refused (get_or-set_same new i r (Ok tt) (omega arith)) ∙ answer ∙ ap (refusal (get_or cs i d)) s.ledger ∙ sym (answered_at cs i d L more))
+      | inr ne ↦ ap refused (get_or-set_other new i k r (Ok tt) ne) ∙ s.answers k (omega arith) low
+    ];
+    later = drop-set-lt (i + 1) new i r (omega arith) ∙ sym (drop-drop 1 i new) ∙ ap (drop 1) s.later ∙ drop-drop 1 i old;
+  })
 
--- all calls were made
-module _ (cs : List Call) (L : Ledger) (old : List (Result (Unit {0}) Refusal)) (M : Ledger) (new : List (Result (Unit {0}) Refusal)) (i : ℕ)
-    (s : Ran cs L old M new i) (end : i ≡ length cs) where
-  pub ran_ledger : M ≡ fed cs L
-  ran_ledger = s.ledger ∙ ap (λ xs. fed xs L) (take_all i cs (omega arith))
+  -- all calls were made
+  module _ (end : i ≡ length cs) where
+    pub ran_ledger : M ≡ fed cs L
+    ran_ledger = s.ledger ∙ ap (λ xs. fed xs L) (take_all i cs (omega arith))
 
-  pub ran_answers : Answers new (answered cs L)
-  ran_answers k l h = s.answers k (omega (arith, answered_length cs L)) l
+    pub ran_answers : Answers new (answered cs L)
+    ran_answers k l h = s.answers k (omega (arith, answered_length cs L)) l
 
-  pub ran_later : Later (length cs) old new
-  ran_later = ap (λ n. drop n new) (sym end) ∙ s.later ∙ ap (λ n. drop n old) end
+    pub ran_later : Later (length cs) old new
+    ran_later = ap (λ n. drop n new) (sym end) ∙ s.later ∙ ap (λ n. drop n old) end
+
+-- the end of a run
+pub ruleset running = (ran_ledger, ran_later)

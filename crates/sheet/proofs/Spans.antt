@@ -1,6 +1,6 @@
 -- One move more makes the span the greater of the releases and one length more.
-use Rattle.std.proofs.Common.{◌≡◌, ℕ, ◌<◌, false, cond, is_some, Some, None, Option, unwrap_or, sym, refl, ap, arith}
-use Rattle.std.proofs.lemmas.Bool.{false≢true, eq-eqb, ne_eqb}
+use Rattle.std.proofs.Common.{◌≡◌, ℕ, ◌<◌, false, cond, is_some, Some, Option, unwrap_or, refl, ap, arith}
+use Rattle.std.proofs.lemmas.Bool.{eq-eqb, ne_eqb}
 use Rattle.finite.proofs.Greatest.{greatest_put}
 use Rattle.finite.proofs.Sums.{sum_raised}
 use Rattle.moves.specs.Room.{room}
@@ -9,8 +9,7 @@ use Rattle.sheet.specs.Ledger.{Ledger, on, nothing, figures, release_of, length_
 
 -- a move that is absent has no figures
 pub absent : (o : Option Move) → is_some o ≡ false → unwrap_or o nothing ≡ nothing
-absent (Some m) h = absurd (false≢true (sym h))
-absent None h = refl
+absent o h = grind arith
 
 module _ (n : ℕ) (m : Move) (L : Ledger) where
   -- the figures of the new move

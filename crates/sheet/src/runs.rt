@@ -22,6 +22,7 @@ pub fn replay(calls: &[Call], answers: &mut [Result<(), Refusal>]) -> Sheet
 }
 
 // Makes the calls on that sheet; apart from `replay`, because its loop needs answers, and an edit of `replay` has to fail by its promise.
+#[tactic(auto, using(crate::proofs::Replays::running))]
 fn make_all(sheet: &mut Sheet, calls: &[Call], answers: &mut [Result<(), Refusal>])
     ensures sheet { meaning sheet.new ≡ fed calls.now (meaning sheet.old) }
     ensures answers { Answers answers.new (answered calls.now (meaning sheet.old)) }

@@ -12,14 +12,15 @@ use crate::call::Call;
 use crate::figures::Move;
 use crate::refusal::Refusal;
 use crate::tie::Tie;
-use moves::MoveNumber;
+use moves::{MoveNumber, ROOM};
 
 impl Sheet {
     // A sheet with no move and no tie.
+    #[tactic(auto, using(crate::proofs::Changes::unused_parts))]
     pub fn open() -> Sheet
         ensures { meaning result ≡ blank }
     {
-        Sheet::unused()
+        Sheet::with_entries([None; ROOM])
     }
 
     // Puts a move on the sheet, with a number that the caller chooses.

@@ -5,7 +5,7 @@ ghost use Rattle.moves.specs.Number.{number};
 ghost use Rattle.time.specs.Ticks.{last_tick};
 ghost use Rattle.sheet.specs.Chains.{closes};
 ghost use Rattle.sheet.specs.Facts.{Sound, ranged};
-ghost use Rattle.sheet.specs.Ledger.{blank, on, span_with, entered, tied, untied, struck};
+ghost use Rattle.sheet.specs.Ledger.{on, span_with, entered, tied, untied, struck};
 ghost use Rattle.sheet.specs.Meaning.{meaning};
 ghost use Rattle.sheet.specs.Parts.{ledger_of};
 
@@ -17,21 +17,15 @@ use moves::{MoveNumber, ROOM};
 
 impl Sheet {
     // The sheet with those entries, which keep what every sheet keeps: the one place where a sheet is put together.
-    fn with_entries(entries: [Option<Entry>; ROOM]) -> Sheet
+    pub(super) fn with_entries(entries: [Option<Entry>; ROOM]) -> Sheet
         requires { Sound (ledger_of entries) }
         ensures { meaning result ≡ ledger_of entries }
     {
         Sheet { entries }
     }
 
-    // The sheet with no move and no tie; apart from `open`, because search does not find that an array of no entries means the blank ledger.
-    pub(super) fn unused() -> Sheet
-        ensures { meaning result ≡ blank }
-    {
-        Sheet::with_entries([None; ROOM])
-    }
-
     // The sheet with one move more.
+    #[tactic(auto, using(crate::proofs::Changes::with_move_parts))]
     pub(super) fn with_move(&self, m: MoveNumber, figures: Move) -> Sheet
         requires free { on (meaning self.now) (number m) ≡ false }
         requires fit { ranged figures ≡ true }
@@ -44,6 +38,7 @@ impl Sheet {
     }
 
     // The sheet with that tie.
+    #[tactic(auto, using(crate::proofs::Changes::with_tie_parts))]
     pub(super) fn with_tie(&self, tie: Tie) -> Sheet
         requires before { on (meaning self.now) (number tie.before) ≡ true }
         requires after { on (meaning self.now) (number tie.after) ≡ true }

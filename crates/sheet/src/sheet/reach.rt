@@ -11,7 +11,7 @@ use moves::{MoveNumber, MoveSet};
 
 impl Sheet {
     // The moves to which ties lead from that one, over one tie or over several.
-    #[tactic(auto, using(crate::proofs::Reach::searching, moves::proofs::Sets::length_without))]
+    #[tactic(auto, using(crate::proofs::Reach::search_begins, crate::proofs::Sheets::sheet_sound, moves::proofs::Sets::length_without))]
     fn led_to(&self, from: MoveNumber) -> MoveSet
         ensures { (k : ℕ) → holds result k ≡ leads (meaning self.now).tie (number from) k }
     {
