@@ -23,15 +23,23 @@ struct Sweep<'a> {
     ghost so_far: { Swept (meaning sheet.now) (holds left) times },
 }
 
+// A turn of a sweep: the move that gets its time waits for none that is left.
+#[derive(Clone, Copy)]
+struct Turn<'a> {
+    sweep: Sweep<'a>,
+    m: MoveNumber,
+    ghost free: { Free (meaning sweep.sheet.now) (holds sweep.left) (number m) },
+}
+
 // The ready times of the sheet: at most n turns for n moves, with at most n steps each.
-#[tactic(auto, using(moves::proofs::Sets::length_without, crate::proofs::Steps::sheet_law))]
+#[tactic(auto, using(crate::proofs::Steps::sheet_law, moves::proofs::Sets::length_without))]
 pub(crate) fn swept(sheet: &Sheet) -> ReadyTable
     ensures times { Tabled (meaning sheet.now) result }
     ensures law { ReadyLaw (meaning sheet.now) }
 {
     let mut sweep = Sweep::new(sheet);
-    while let Some(m) = sweep.next_free() {
-        sweep = sweep.done_with(m);
+    while let Some(turn) = sweep.next_turn() {
+        sweep = turn.done();
     }
     ReadyTable::new(sweep.times)
 }
@@ -49,7 +57,15 @@ impl<'a> Sweep<'a> {
         }
     }
 
-    // A move that waits for none that is left: there is one, since no chain of ties returns to its start.
+    // The next turn. While a move is left there is one, since no chain of ties returns to its start.
+    fn next_turn(&self) -> Option<Turn<'a>>
+        ensures { MatchOption result ((k : ℕ) → holds self.now.left k ≡ false) (λ t. (t.sweep.sheet.now ≡ self.now.sheet.now) × (t.sweep.left ≡ self.now.left) × (holds self.now.left (number t.m) ≡ true)) }
+    {
+        let m = self.next_free()?;
+        Some(Turn { sweep: *self, m })
+    }
+
+    // A move that waits for none that is left.
     fn next_free(&self) -> Option<MoveNumber>
         ensures { MatchOption result ((k : ℕ) → holds self.now.left k ≡ false) (λ m. (holds self.now.left (number m) ≡ true) × Free (meaning self.now.sheet.now) (holds self.now.left) (number m)) }
     {
@@ -68,43 +84,43 @@ impl<'a> Sweep<'a> {
         }
         held
     }
+}
 
-    // The sweep after one turn more, which gives that move its time.
-    fn done_with(&self, m: MoveNumber) -> Sweep<'a>
-        requires { Free (meaning self.now.sheet.now) (holds self.now.left) (number m) }
-        ensures sheet { result.sheet.now ≡ self.now.sheet.now }
-        ensures left { (k : ℕ) → holds result.left k ≡ (not (k == number m) && holds self.now.left k) }
+impl<'a> Turn<'a> {
+    // The sweep after this turn.
+    fn done(&self) -> Sweep<'a>
+        ensures sheet { result.sheet.now ≡ self.now.sweep.sheet.now }
+        ensures left { (k : ℕ) → holds result.left k ≡ (not (k == number self.now.m) && holds self.now.sweep.left k) }
     {
-        let mut times = self.times;
-        times[m.index()] = self.earliest(m);
+        let mut times = self.sweep.times;
+        times[self.m.index()] = self.earliest();
         Sweep {
-            sheet: self.sheet,
-            left: self.left.without(m),
+            sheet: self.sweep.sheet,
+            left: self.sweep.left.without(self.m),
             times,
         }
     }
 
-    // The ready time of a move that waits for none that is left.
+    // The ready time of the move.
     #[tactic(auto, using(crate::proofs::Steps::finishes_off, crate::proofs::Times::ready_equation, finite::proofs::Walks::comparing, sheet::proofs::Sheets::sheet_sound))]
-    fn earliest(&self, m: MoveNumber) -> u32
-        requires { Free (meaning self.now.sheet.now) (holds self.now.left) (number m) }
-        ensures { result ≡ ready (meaning self.now.sheet.now) (number m) }
+    fn earliest(&self) -> u32
+        ensures { result ≡ ready (meaning self.now.sweep.sheet.now) (number self.now.m) }
     {
-        let mut time = self.sheet.figures_of(m).release;
-        for i in self.sheet.moves().iter() {
-            time = time.max(self.finish(i, m));
+        let sheet = self.sweep.sheet;
+        let mut time = sheet.figures_of(self.m).release;
+        for i in sheet.moves().iter() {
+            time = time.max(self.finish(i));
         }
         time
     }
 
-    // When i could be finished, where m waits for it; 0 where it does not.
+    // When i could be finished, where the move waits for it; 0 where it does not.
     #[tactic(auto, using(crate::proofs::Steps::tied_in_time, sheet::proofs::Sheets::sheet_sound))]
-    fn finish(&self, i: MoveNumber, m: MoveNumber) -> u32
-        requires { Free (meaning self.now.sheet.now) (holds self.now.left) (number m) }
-        ensures { result ≡ (if (meaning self.now.sheet.now).tie (number i) (number m) then ready (meaning self.now.sheet.now) (number i) + length_of (meaning self.now.sheet.now) (number i) else 0) }
+    fn finish(&self, i: MoveNumber) -> u32
+        ensures { result ≡ (if (meaning self.now.sweep.sheet.now).tie (number i) (number self.now.m) then ready (meaning self.now.sweep.sheet.now) (number i) + length_of (meaning self.now.sweep.sheet.now) (number i) else 0) }
     {
-        if self.sheet.waiting_for(i).contains(m) {
-            self.times[i.index()] + self.sheet.figures_of(i).length
+        if self.sweep.sheet.waiting_for(i).contains(self.m) {
+            self.sweep.times[i.index()] + self.sweep.sheet.figures_of(i).length
         } else {
             0
         }

@@ -8,7 +8,7 @@ use Rattle.finite.proofs.Walks.{greatest_passed}
 use Rattle.moves.specs.Members.{holds}
 use Rattle.moves.specs.Room.{room}
 use Rattle.rule.proofs.Steps.{finishes}
-use Rattle.rule.proofs.sweep.Sweep.earliest.Given as goal
+use Rattle.rule.proofs.sweep.Turn.earliest.Given as goal
 
 abbrev pub invariant-loop-i : goal.invariant-loop-i
-invariant-loop-i l = l.time ≡ greatest_passed room (holds (left_of l.i-iterator)) (release_of (meaning l.self.sheet.now) (number l.m)) (finishes (meaning l.self.sheet.now) (number l.m))
+invariant-loop-i l = l.time ≡ greatest_passed room (holds (left_of l.i-iterator)) (release_of (meaning l.self.sweep.sheet.now) (number l.self.m)) (finishes (meaning l.self.sweep.sheet.now) (number l.self.m))
