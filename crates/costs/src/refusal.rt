@@ -14,7 +14,7 @@ pub enum PricingRefusal {
 }
 
 impl PricingRefusal {
-    // The number by which the refusal is known.
+    // The number by which the refusal is known. The sheet's `Refusal` has the same method: a line each, of two enums that no caller has as one.
     pub fn number(self) -> u8
         ensures { result ≡ number_of self }
     {

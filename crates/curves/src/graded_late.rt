@@ -43,7 +43,7 @@ impl Curve for GradedLate {
         ensures grade { grade_of result ≡ late_grade (graded_due_of self.now) (grade_after self.now) (min t last_tick) }
         ensures ticks { ticks_in result ≡ late_by (graded_due_of self.now) (min t last_tick) }
     {
-        let end = t.min(LAST_TICK) as u64;
+        let end = u64::from(t.min(LAST_TICK));
         let due = self.due.get();
         let grade = if end <= due { 0 } else { self.grade.get() };
         Graded::capped(grade, end.saturating_sub(due))

@@ -43,7 +43,7 @@ impl Curve for Late {
         ensures rises { NeverFalls points_not_above (late_at self.now) }
         ensures formula { amount result ≡ late_points (due_of self.now) (rate_of self.now) (min t last_tick) }
     {
-        let late = t.min(LAST_TICK).saturating_sub(self.due.get() as u32);
-        Points::capped(self.rate.get() * late as u64)
+        let late = u64::from(t.min(LAST_TICK)).saturating_sub(self.due.get());
+        Points::capped(self.rate.get() * late)
     }
 }

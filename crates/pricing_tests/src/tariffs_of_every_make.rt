@@ -82,7 +82,7 @@ fn a_cue_tariff(rt: HostRuntime) -> Result<(), Fail> {
     let mut tariff = CueTariff::new();
     assert!(rt; tariff.count() == 0 && four(&tariff, 0) == [0, 0, 0, 0]);
     for k in 0..15 {
-        assert!(rt; tariff.add(doubled(k as u64)?) == Some(k));
+        assert!(rt; tariff.add(doubled(u64::from(k))?) == Some(k));
     }
     let mut steps = Steps::new();
     assert!(rt;

@@ -39,7 +39,7 @@ impl CueTariff {
         ensures { result ≡ next_number (records_of self.now) }
     {
         let next = self.count();
-        ((next as usize) < MOST_CURVES).then_some(next)
+        (usize::from(next) < MOST_CURVES).then_some(next)
     }
 
     // Adds the next curve and answers its number; where all numbers are taken it answers nothing and leaves the tariff as it was.
@@ -73,7 +73,7 @@ impl Tariff for CueTariff {
     {
         self.records
             .as_slice()
-            .get(k as usize)
+            .get(usize::from(k))
             .map_or(Points::capped(0), |curve| curve.cost(t))
     }
 }

@@ -56,6 +56,6 @@ impl Curve for Steps {
         ensures rises { NeverFalls points_not_above (steps_at self.now) }
         ensures law { PointsLaw (rows_of self.now) (min t last_tick) (amount result) }
     {
-        Points::capped(points_at(self.rows.as_slice(), t.min(LAST_TICK) as u64))
+        Points::capped(points_at(self.rows.as_slice(), u64::from(t.min(LAST_TICK))))
     }
 }

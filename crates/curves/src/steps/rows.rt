@@ -10,7 +10,7 @@ use time::LAST_TICK;
 pub(super) fn all_in_range(rows: &[Row]) -> bool
     ensures { result ≡ in_range rows.now }
 {
-    rows.iter().all(|row| row.tick <= LAST_TICK as u64 && row.points <= HIGHEST)
+    rows.iter().all(|row| row.tick <= u64::from(LAST_TICK) && row.points <= HIGHEST)
 }
 
 // Whether ticks strictly rise and points never fall from row to row.
