@@ -21,6 +21,8 @@ const GREATEST: u64 = 1_000;
 // The highest grade.
 pub const LAST_GRADE: u64 = 9;
 
+// Numbers with the same bounds are one type, so each of these names is a type of its own only as far as its bounds are.
+
 // A number of ticks up to the last one: when a bar is due, by how much a curve is read later, how late a bar is.
 pub type Ticks = Bounded<0, LAST>;
 

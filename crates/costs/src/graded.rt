@@ -54,6 +54,7 @@ impl Graded {
     pub fn ticks(self) -> u32
         ensures { result ≡ ticks_in self }
     {
+        // no more than the last tick, so it fits
         self.ticks.get() as u32
     }
 }

@@ -11,6 +11,7 @@ pub trait Curve {
     // what it means: a cost for each tick from 0 to the last one
     ghost cost_at: { Self → ℕ → Self.Cost };
 
+    // That costs never fall is promised by each call, of the whole meaning, and is not a law of the trait: a layer has it from the curve that it reads.
     // The cost of an end at tick t; an end after the last tick costs what one at the last tick does. Costs never fall as the tick grows.
     fn cost(&self, t: u32) -> Self::Cost
         ensures value { result ≡ reading (cost_at self.now) t }

@@ -36,7 +36,7 @@ impl Curve for GradedLate {
 
     ghost cost_at = { graded_late_at };
 
-    // the trait's clauses are repeated: a call on the type itself is promised only what stands here
+    // the trait's clauses are repeated: where an implementation adds a clause, they have to follow from its own
     fn cost(&self, t: u32) -> Graded
         ensures value { result ≡ reading (graded_late_at self.now) t }
         ensures rises { NeverFalls graded_not_above (graded_late_at self.now) }

@@ -1,4 +1,5 @@
-// Late: no points up to the due tick, then so many for each tick.
+// Late: no points up to the due tick, then so many for each tick. A type of its own beside `GradedLate`: a rate is multiplied and a grade is not, and
+// one struct for both would have a field that is named by neither.
 ghost use Rattle.std.specs.Prelude.{◌≡◌, ◌*◌, ◌≤◌, min, ◌&&◌, IfOk, None, nat_le};
 ghost use Rattle.time.specs.Ticks.{last_tick};
 ghost use Rattle.costs.specs.Points.{amount, points_of, points_not_above};
@@ -37,7 +38,7 @@ impl Curve for Late {
 
     ghost cost_at = { late_at };
 
-    // the trait's clauses are repeated: a call on the type itself is promised only what stands here
+    // the trait's clauses are repeated: where an implementation adds a clause, they have to follow from its own
     fn cost(&self, t: u32) -> Points
         ensures value { result ≡ reading (late_at self.now) t }
         ensures rises { NeverFalls points_not_above (late_at self.now) }

@@ -20,6 +20,7 @@ impl<F: Curve> Curve for Delay<F> {
     ghost cost_at = { λ s. delayed (tick_count s.by) (F.Curve.cost_at s.curve) };
 
     fn cost(&self, t: u32) -> F::Cost {
+        // the delay is no more than the last tick, so it fits
         self.curve.cost(t.min(LAST_TICK) + self.by.get() as u32)
     }
 }

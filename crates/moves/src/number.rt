@@ -5,6 +5,7 @@ ghost use Rattle.moves.specs.Room.{room};
 // How many numbers there are for moves: 0 to 63.
 pub const ROOM: usize = 64;
 
+// A type of its own beside the checked numbers of costs: it is a place in tables too, has no refusal, and stands below no cost.
 #[derive(Clone, Copy, PartialEq, Eq, PartialOrd, Ord)]
 pub struct MoveNumber {
     value: u8,

@@ -3,7 +3,6 @@
 #![tactic(auto)]
 
 mod over;
-mod ready;
 mod sweep;
 mod table;
 #[cfg(test)]
@@ -11,5 +10,5 @@ mod tests;
 mod timed;
 
 pub use over::earliest_over;
-pub use ready::ready_times;
+pub use sweep::ready_times;
 pub use table::ReadyTable;

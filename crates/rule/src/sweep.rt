@@ -16,7 +16,7 @@ use sheet::Sheet;
 #[derive(Clone, Copy)]
 struct Sweep<'a> {
     sheet: &'a Sheet,
-    // the moves that have no time yet
+    // the moves that have no time yet: a set, since the next move is found by set operations, and at the end every place of the times is read
     left: MoveSet,
     // the times of the others
     times: [u32; ROOM],
@@ -31,9 +31,9 @@ struct Turn<'a> {
     ghost free: { Free (meaning sweep.sheet.now) (holds sweep.left) (number m) },
 }
 
-// The ready times of the sheet: at most n turns for n moves, with at most n steps each.
+// The ready time of every move of the sheet: at most a turn for each move, and each turn goes through the moves a few times.
 #[tactic(auto, using(crate::proofs::Steps::sheet_law, moves::proofs::Sets::length_without))]
-pub(crate) fn swept(sheet: &Sheet) -> ReadyTable
+pub fn ready_times(sheet: &Sheet) -> ReadyTable
     ensures times { Tabled (meaning sheet.now) result }
     ensures law { ReadyLaw (meaning sheet.now) }
 {

@@ -8,6 +8,7 @@ mod reads;
 
 #[derive(Clone, Copy)]
 pub struct ReadyTable {
+    // an array by number: it is read in one function, `at`
     times: [u32; ROOM],
     ghost places: { length times ≡ room },
 }

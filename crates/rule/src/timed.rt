@@ -7,7 +7,7 @@ ghost use Rattle.rule.specs.Over.{over, through_from, work_from, OverLaw};
 ghost use Rattle.rule.specs.Ready.{ready};
 ghost use Rattle.rule.specs.Table.{Tabled};
 
-use crate::ready::ready_times;
+use crate::sweep::ready_times;
 use crate::table::ReadyTable;
 use moves::MoveNumber;
 use sheet::Sheet;

@@ -27,7 +27,7 @@ pub(crate) fn on_a_sheet() -> Sheet {
     replay(&calls, &mut answers)
 }
 
-// Enters a bar, priced by the curve of its own number.
+// Enters a bar, priced by the curve of its own number; in short, for this list alone.
 fn enter(number: u64, release: u64, length: u64) -> Call {
     Call::Enter {
         number,

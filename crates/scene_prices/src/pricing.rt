@@ -17,11 +17,9 @@ pub(crate) fn show<C: CostKind + Display, T: Tariff<Cost = C>>(
 ) -> anyhow::Result<()> {
     show_ends(rt)?;
     for m in sheet.moves().iter() {
-        let n = m.get();
-        if let Some(figures) = sheet.figures(n)
-            && figures.curve < tariff.count()
-        {
-            show_bar(rt, n, tariff, figures.curve)?;
+        let curve = sheet.figures_of(m).curve;
+        if curve < tariff.count() {
+            show_bar(rt, m.get(), tariff, curve)?;
         }
     }
     Ok(())

@@ -34,7 +34,7 @@ pub(crate) fn figures_at(place: Option<Entry>) -> Move
     place.map_or(Move::NOTHING, |entry| entry.figures)
 }
 
-// The same place, where m too waits for the move that stands there.
+// The same place, where m too waits for the move that stands there. With and without are two functions, as of a set: they promise different things.
 pub(crate) fn with_follower(place: Option<Entry>, m: MoveNumber) -> Option<Entry>
     ensures figures { figures_in result ≡ figures_in place }
     ensures waits { (k : ℕ) → waits_in result k ≡ (is_some place && (k == number m || waits_in place k)) }

@@ -25,7 +25,7 @@ pub enum Refusal {
 }
 
 impl Refusal {
-    // The number by which the refusal is known.
+    // The number by which the refusal is known. `PricingRefusal` has the same method: a line each, of two enums that no caller has as one.
     pub fn number(self) -> u8
         ensures { result ≡ number_of self }
     {

@@ -9,7 +9,8 @@ use crate::call::Call;
 use crate::refusal::Refusal;
 use crate::sheet::Sheet;
 
-// Makes the calls on a sheet that it opens, and writes what each answered into the place of its number as far as there are places.
+// Makes the calls on a sheet that it opens, and writes what each answered into the place of its number as far as there are places. Calls and
+// answers are two lists, because a caller lends the second.
 pub fn replay(calls: &[Call], answers: &mut [Result<(), Refusal>]) -> Sheet
     ensures sheet { meaning result ≡ ledger calls.now }
     ensures answers { Answers answers.new (answered calls.now blank) }
@@ -35,8 +36,8 @@ fn make_all(sheet: &mut Sheet, calls: &[Call], answers: &mut [Result<(), Refusal
     }
 }
 
-// Writes an answer into its place, where there is one. By its index: of a place that `get_mut` or `iter_mut` lends, nothing is promised
-// of what the list holds once it is written.
+// Writes an answer into its place, where there is one. By its index: of a place that `get_mut` or an adapter over `iter_mut` lends, nothing is
+// known once it is written, and a plain loop over the places would leave out the calls past them.
 #[tactic(auto, using(std::proofs::lemmas::List::set_past))]
 fn put(answers: &mut [Result<(), Refusal>], i: usize, answer: Result<(), Refusal>)
     ensures { answers.new ≡ slice_set answers.old i answer }

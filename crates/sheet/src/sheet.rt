@@ -16,7 +16,8 @@ mod span;
 
 #[derive(Clone, Copy)]
 pub struct Sheet {
-    // the entry of each move, at its number
+    // the entry of each move, at its number; an array, as each table of moves here is: it is read in one function, and a type between would
+    // promise no more than an array does
     entries: [Option<Entry>; ROOM],
     ghost places: { length entries ≡ room },
     ghost ranges: { Ranged (ledger_of entries) },

@@ -10,6 +10,7 @@ use std::test::Fail;
 
 const MAX: u64 = u64::MAX;
 
+// The calls in short, with all their numbers; the programs have the like for their own lists.
 fn enter(number: u64, release: u64, length: u64, curve: u64) -> Call {
     Call::Enter {
         number,
@@ -31,7 +32,7 @@ fn strike(number: u64) -> Call {
     Call::Strike { number }
 }
 
-// The number of the refusal, or 0 where there is none.
+// The number of the refusal, or 0 where there is none; `pricing_tests` has the same of its own refusals.
 fn answer(r: Result<(), Refusal>) -> u8 {
     r.err().map_or(0, |refusal| refusal.number())
 }

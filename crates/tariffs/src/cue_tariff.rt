@@ -64,7 +64,7 @@ impl Tariff for CueTariff {
         self.records.len() as u8
     }
 
-    // the trait's clauses are repeated: a call on the type itself is promised only what stands here
+    // the trait's clauses are repeated: where an implementation adds a clause, they have to follow from its own
     #[tactic(auto, using(crate::proofs::Records::records_rise, crate::proofs::Records::record_law))]
     fn cost(&self, k: u8, t: u32) -> Points
         ensures value { result ≡ reading (record_at (records_of self.now) k) t }

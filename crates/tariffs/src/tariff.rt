@@ -18,6 +18,7 @@ pub trait Tariff {
     // what it means: for each number from 0 to 255 a cost for each tick from 0 to the last one
     ghost curve_at: { Self → ℕ → ℕ → Self.Cost };
 
+    // Both calls promise that no curve falls, as a curve's call does: it is no law of the trait.
     // How many curves there are, at most 16. No curve falls as the tick grows.
     fn count(&self) -> u8
         ensures value { result ≡ curve_count self.now }

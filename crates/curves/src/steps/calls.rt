@@ -49,7 +49,7 @@ impl Curve for Steps {
 
     ghost cost_at = { steps_at };
 
-    // the trait's clauses are repeated: a call on the type itself is promised only what stands here
+    // the trait's clauses are repeated: where an implementation adds a clause, they have to follow from its own
     #[tactic(auto, using(crate::proofs::Rises::steps_rises, crate::proofs::Rises::steps_low, crate::proofs::Rows::points_law))]
     fn cost(&self, t: u32) -> Points
         ensures value { result ≡ reading (steps_at self.now) t }

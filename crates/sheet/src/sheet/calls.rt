@@ -1,5 +1,7 @@
 // The five calls. Each answers for every argument, and its promise is two equations: what it answers, and what the sheet means
-// afterwards, both from what the sheet meant before. A refusal leaves the sheet as it was.
+// afterwards, both from what the sheet meant before. A refusal leaves the sheet as it was. The two equations stand at each call, and not in a
+// record, because they are what an auditor looks for. The numbers of a call stay apart: a caller has any numbers, and they are a move's figures or a tie
+// once they are in range.
 ghost use Rattle.std.specs.Prelude.{◌≡◌, ℕ, true, Some, Ok, Err, Option};
 ghost use Rattle.moves.specs.Number.{number};
 ghost use Rattle.sheet.specs.Chains.{TellsChains};
@@ -24,7 +26,6 @@ impl Sheet {
     }
 
     // Puts a move on the sheet, with a number that the caller chooses.
-    // The three figures stay apart: they are any numbers that a caller has, and are those of a move (`Move`) once they are in range.
     #[tactic(auto, using(crate::proofs::Spans::span_entered, crate::proofs::Spans::same_figures))]
     pub fn enter(&mut self, n: u64, release: u64, length: u64, curve: u64) -> Result<(), Refusal>
         ensures answer { refused result ≡ refusal (Call.Enter n release length curve) (meaning self.old) }

@@ -9,7 +9,7 @@ ghost use Rattle.sheet.specs.Meaning.{meaning};
 ghost use Rattle.sheet.specs.Parts.{entry_at};
 
 use super::Sheet;
-use crate::entry::Entry;
+use crate::entry::{Entry, figures_at};
 use crate::figures::Move;
 use crate::tie::Tie;
 use moves::{MoveNumber, MoveSet};
@@ -39,10 +39,11 @@ impl Sheet {
     }
 
     // The figures of that move; all 0 where it is not on the sheet.
+    #[tactic(auto, unfolding(crate::specs::Parts::ledger_of))]
     pub fn figures_of(&self, m: MoveNumber) -> Move
         ensures { result ≡ figures (meaning self.now) (number m) }
     {
-        self.figures(m.get()).unwrap_or(Move::NOTHING)
+        figures_at(self.entry(m))
     }
 
     // Whether there is a tie from the first to the second.

@@ -50,9 +50,7 @@ impl<T: Copy, const N: usize> Filled<T, N> {
         ensures items { result.now ≡ items_of self.now }
         ensures few { length result.now ≤ N }
     {
-        // in two steps: a part of an array whose length is a parameter is not covered yet
-        let all = &self.items[..];
-        &all[..self.count]
+        &self.items[..self.count]
     }
 
     // How many items there are.

@@ -1,7 +1,7 @@
 -- The sweep is over the sheet, and each turn leaves one move less.
 use Rattle.std.proofs.Common.{◌≡◌, length}
 use Rattle.moves.specs.Members.{members}
-use Rattle.rule.proofs.sweep.swept.Given as goal
+use Rattle.rule.proofs.sweep.ready_times.Given as goal
 
 abbrev pub invariant-loop-turn : goal.invariant-loop-turn
 invariant-loop-turn l = l.sweep.sheet.now ≡ l.sheet
