@@ -1,6 +1,6 @@
 #![tactic(auto)]
 
-// Tests of costs, curves, layers and tariffs, in a crate of their own: the edges of every range, and the same questions to tariffs of
+// Tests of costs, tables, curves, layers and tariffs, in a crate of their own: the edges of every range, and the same questions to tariffs of
 // every make.
 #[cfg(test)]
 mod answers;
@@ -8,6 +8,8 @@ mod answers;
 mod costs_at_edges;
 #[cfg(test)]
 mod curves_at_edges;
+#[cfg(test)]
+mod filled_tables;
 #[cfg(test)]
 mod layers_at_edges;
 #[cfg(test)]
