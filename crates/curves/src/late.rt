@@ -22,6 +22,7 @@ pub struct Late {
 
 impl Late {
     // The curve with that due tick and that rate, or a refusal where one of them is out of range.
+    // What is refused and what is made are two clauses at each maker: they are what an auditor looks for.
     pub fn new(due: u64, rate: u64) -> Result<Late, PricingRefusal>
         ensures answer { refused result ≡ unless (nat_le due last_tick && is_factor rate) PricingRefusal.OutOfRange None }
         ensures made { IfOk result (λ f. (due_of f ≡ due) × (rate_of f ≡ rate)) }

@@ -4,7 +4,7 @@ ghost use Rattle.curves.specs.Meaning.{reading};
 
 use crate::tariff::Tariff;
 
-// The ticks and the prices are two lists, because a caller lends the second.
+// The ticks and the prices are two lists, because a caller lends the second; the tariff and k are apart, as in the tariff's own call.
 // Writes what it costs by curve k to end at each of those ticks into the place of its number, as far as there are places.
 pub fn price_list<T: Tariff>(tariff: &T, k: u8, ticks: &[u32], prices: &mut [T::Cost])
     ensures each { (i : ℕ) (d : T.Cost) → i < length ticks.now → i < length prices.new → slice_index_or prices.new i d ≡ reading (T.curve_at tariff.now k) (slice_index ticks.now i) }
