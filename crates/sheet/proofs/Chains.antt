@@ -129,6 +129,11 @@ pub chain_start : {tie : ℕ → ℕ → Bool} {i j : ℕ} → Chain tie i j →
 chain_start (link {j = j} e) = (j, e)
 chain_start (more {k = k} e c) = (k, e)
 
+-- a chain ends with a tie
+pub chain_end : {tie : ℕ → ℕ → Bool} {i j : ℕ} → Chain tie i j → (k : ℕ) × (tie k j ≡ true)
+chain_end (link {i = i} e) = (i, e)
+chain_end (more e c) = chain_end c
+
 -- with more ties a chain stays one
 pub chain_mono : {t u : ℕ → ℕ → Bool} {i j : ℕ} → ((a b : ℕ) → t a b ≡ true → u a b ≡ true) → Chain t i j → Chain u i j
 chain_mono h (link {i = i} {j = j} e) = link (h i j e)
