@@ -3,6 +3,7 @@ use Rattle.std.proofs.Common.{◌≡◌, ℕ, zero, suc, ◌<◌, ◌≤◌, tru
 use Rattle.std.proofs.lemmas.Bool.Decides.{nat_tests}
 use Rattle.std.proofs.lemmas.Grind.{common_steps}
 use Rattle.costs.specs.Limits.{highest}
+use Rattle.curves.specs.Limits.{most_rows}
 use Rattle.curves.specs.Rows.{tick_of, points_in, in_range, InRange, climbs, Climbs, RowsLaw, fit, points_after, points_at, PointsLaw}
 use Rattle.curves.specs.declared.row.Row.{Row}
 
@@ -43,7 +44,10 @@ each_in_range (r ∷ rows) h =
 pub rows_law : (rows : List Row) → RowsLaw rows
 rows_law rows = record { ranges = (in_range_each rows, each_in_range rows); order = (climbs_any rows, any_climbs rows) }
 
--- rows that make steps climb
+-- rows that make steps are not too many, and they climb
+pub fit_few : (rows : List Row) → fit rows ≡ true → length rows ≤ most_rows
+fit_few rows e = grind (arith, nat_tests)
+
 pub fit_climbs : (rows : List Row) → fit rows ≡ true → climbs rows ≡ true
 fit_climbs rows e = grind (arith, common_steps)
 

@@ -78,6 +78,12 @@ filter_same : (p q : ℕ → Bool) (xs : List ℕ) → ((k : ℕ) → Contains x
 filter_same p q [] e = refl
 filter_same p q (x ∷ xs) e = rw (e x (0, omega arith, refl), filter_same p q xs (λ k h. e k (suc h.0, omega (arith, h.1), h.2)))
 
+-- tests that agree below n list the same
+pub rising_ext : (n : ℕ) (p q : ℕ → Bool) → ((k : ℕ) → k < n → p k ≡ q k) → rising n p ≡ rising n q
+unfolding rising
+rising_ext n p q e =
+    filter_same p q (range_with_len 0 n) (λ k h. let low = All-contains (λ x. (0 ≤ x) × (x < 0 + n)) (range_with_len 0 n) k (ranged 0 n) h in e k (omega (arith, low.1)))
+
 first_on : (i n : ℕ) (p : ℕ → Bool) (m : ℕ) → i ≤ m → m < i + n → p m ≡ true → ((k : ℕ) → i ≤ k → k < m → p k ≡ false)
     → filter p (range_with_len i n) ≡ m ∷ filter (λ k. not (eqb k m) && p k) (range_with_len i n)
 first_on i zero p m l h t e = absurd (omega arith)

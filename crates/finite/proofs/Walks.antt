@@ -1,8 +1,8 @@
 -- A walk over some of the numbers below a bound, one after another: what was added up or compared so far is that of the numbers that are not in the rest.
-use Rattle.std.proofs.Common.{◌≡◌, ℕ, ◌+◌, ◌<◌, max, Bool, true, false, cond, not, ◌&&◌, eqb, ◌⊎◌, ◌∙◌, arith}
+use Rattle.std.proofs.Common.{◌≡◌, ℕ, ◌+◌, ◌<◌, ◌≤◌, max, Bool, true, false, cond, not, ◌&&◌, eqb, ◌⊎◌, ◌∙◌, arith}
 use Rattle.finite.specs.Below.{sum, greatest}
 use Rattle.finite.proofs.Greatest.{greatest_ext, greatest_least, greatest_put}
-use Rattle.finite.proofs.Sums.{sum_ext, sum_raised, sum_zero}
+use Rattle.finite.proofs.Sums.{sum_ext, sum_mono, sum_raised, sum_zero}
 use Rattle.std.proofs.lemmas.Bool.Decides.{nat_tests}
 use Rattle.std.proofs.lemmas.Bool.{cond-true}
 
@@ -12,7 +12,7 @@ lacks rest rest' m k less h =
     grind (arith, nat_tests, less k)
 
 -- the value of f at a number that the walk has passed, and 0 at one that is still in the rest
-abbrev passed : (ℕ → Bool) → (ℕ → ℕ) → ℕ → ℕ
+abbrev pub passed : (ℕ → Bool) → (ℕ → ℕ) → ℕ → ℕ
 passed rest f k = cond (rest k) 0 (f k)
 
 -- the sum of f at the numbers below n that were passed
@@ -47,6 +47,11 @@ module _ (n : ℕ) (rest : ℕ → Bool) (f : ℕ → ℕ) where
   pub greatest_ends : (first : ℕ) → ((k : ℕ) → rest k ≡ false) → greatest_passed n rest first f ≡ max first (greatest n f)
   unfolding greatest_passed
   greatest_ends first h = omega (arith, greatest_ext n (passed rest f) f (λ k _. ends h k))
+
+  -- what was passed is no more than all
+  pub sum_passed_most : sum_passed n rest f ≤ sum n f
+  unfolding sum_passed
+  sum_passed_most = sum_mono n (passed rest f) f (λ k _. grind arith)
 
 -- one number more is passed
 module _ {n i : ℕ} {rest' : ℕ → Bool} (rest : ℕ → Bool) (low : i < n) (has : rest i ≡ true) (less : (k : ℕ) → rest' k ≡ (not (eqb k i) && rest k)) (f : ℕ → ℕ) where

@@ -99,7 +99,7 @@ bit_tested w i below = rw (shr_and_one w i, holds_at (set_of w) i below)
 -- ---- counts
 
 -- each bit that is 1 counts once
-ones_count : (k n : ℕ) → n < 2 ^ k → ones n ≡ count k (λ i. eqb (bit_at n i) 1)
+pub ones_count : (k n : ℕ) → n < 2 ^ k → ones n ≡ count k (λ i. eqb (bit_at n i) 1)
 unfolding count sum ones
 ones_count zero n h = ap ones (let e : n ≡ 0 = omega arith in e)
 ones_count (suc k) n h =
