@@ -7,15 +7,20 @@ use Rattle.costs.specs.declared.graded.Graded.{Graded}
 
 -- the grade of a graded cost
 abbrev pub grade_of : Graded → ℕ
-grade_of c = value_of c.grade
+grade_of c = c.grade
 
 -- its ticks
 abbrev pub ticks_in : Graded → ℕ
-ticks_in c = tick_count c.ticks
+ticks_in c = c.ticks
 
 -- the cost of grade g with n ticks, the highest grade where g is more, and as many as the last tick where n is more
 abbrev pub graded_of : ℕ → ℕ → Graded
-graded_of g n = record { grade = capped_at last_grade g; ticks = ticks_of n }
+graded_of g n = record {
+  grade = value_of (capped_at last_grade g);
+  ticks = tick_count (ticks_of n);
+  grade_high = (capped_at last_grade g).high;
+  ticks_high = (ticks_of n).high;
+}
 
 -- whether one graded cost is not above another: the grade decides, and the ticks where the grades are the same
 abbrev pub graded_not_above : Graded → Graded → Bool

@@ -6,3 +6,4 @@ pub mod Ticks
 pub mod Factor
 pub mod Points
 pub mod Graded
+pub mod Same

@@ -1,85 +1,18 @@
 // Graded costs: a grade from 0 to 9, and ticks that decide where the grades are the same.
-ghost use Rattle.std.specs.Prelude.{◌≡◌, ◌&&◌, ◌++◌, IfOk, Some, None, codes, decimal, nat_le};
+ghost use Rattle.std.specs.Prelude.{◌≤◌};
 ghost use Rattle.time.specs.Ticks.{last_tick};
-ghost use Rattle.costs.specs.Graded.{grade_of, ticks_in, graded_of, graded_not_above};
 ghost use Rattle.costs.specs.Limits.{last_grade};
-ghost use Rattle.costs.specs.Refusals.{refused, unless};
-ghost use Rattle.std.proofs.Common.{arith, rules};
-ghost use Rattle.std.proofs.lemmas.Bool.Decides.{nat_tests};
-ghost use Rattle.costs.specs.Bounded.{same};
 
-use crate::bounded::{Grade, Ticks};
-use crate::kind::CostKind;
-use crate::refusal::PricingRefusal;
-use std::fmt;
+mod calls;
 
+// The fields are a checked grade and a checked number of ticks, each in as few bytes as it fits in: prices come in lists, and with `Grade` and `Ticks`
+// themselves each would take twice the memory.
 #[derive(Clone, Copy, PartialEq, Eq, PartialOrd, Ord)]
 pub struct Graded {
     // what decides first
-    grade: Grade,
+    grade: u8,
     // what decides where the grades are the same
-    ticks: Ticks,
-}
-
-impl Graded {
-    // The cost of that grade and that many ticks, or a refusal where one of them is out of range.
-    // What is refused and what is made are two clauses at each maker: they are what an auditor looks for.
-    pub fn new(grade: u64, ticks: u64) -> Result<Graded, PricingRefusal>
-        ensures answer { refused result ≡ unless (nat_le grade last_grade && nat_le ticks last_tick) PricingRefusal.OutOfRange None }
-        ensures made { IfOk result (λ c. (grade_of c ≡ grade) × (ticks_in c ≡ ticks)) }
-    {
-        Ok(Graded {
-            grade: Grade::new(grade)?,
-            ticks: Ticks::new(ticks)?,
-        })
-    }
-
-    // The cost of that grade and that many ticks, each no more than its greatest.
-    pub fn capped(grade: u64, ticks: u64) -> Graded
-        ensures { result ≡ graded_of grade ticks }
-    {
-        Graded {
-            grade: Grade::capped(grade),
-            ticks: Ticks::capped(ticks),
-        }
-    }
-
-    // The grade.
-    pub fn grade(self) -> u64
-        ensures { result ≡ grade_of self }
-    {
-        self.grade.get()
-    }
-
-    // The ticks.
-    pub fn ticks(self) -> u32
-        ensures { result ≡ ticks_in self }
-    {
-        // no more than the last tick, so it fits
-        self.ticks.get() as u32
-    }
-}
-
-impl CostKind for Graded {
-    ghost not_above = { graded_not_above };
-
-    ghost total = { Prim.search rules };
-
-    ghost same = { λ a b h k i. record { grade = same a.grade b.grade (Prim.grind (arith, nat_tests)) i; ticks = same a.ticks b.ticks (Prim.grind (arith, nat_tests)) i } };
-
-    ghost chain = { Prim.search rules };
-
-    fn not_above(self, other: Graded) -> bool {
-        self <= other
-    }
-}
-
-impl fmt::Display for Graded {
-    ghost output = { λ c. Some (decimal (grade_of c) ++ (codes "/" ++ decimal (ticks_in c))) };
-
-    fn fmt<W: fmt::Write>(&self, f: &mut fmt::Formatter<W>) -> fmt::Result {
-        let grade = self.grade;
-        let ticks = self.ticks;
-        write!(f, "{grade}/{ticks}")
-    }
+    ticks: u32,
+    ghost grade_high: { grade ≤ last_grade },
+    ghost ticks_high: { ticks ≤ last_tick },
 }
