@@ -6,5 +6,4 @@ pub mod Equations
 pub mod Changes
 pub mod Sheets
 pub mod Spans
-pub mod Gathers
 pub mod Frees

@@ -36,15 +36,14 @@ closed_chain : {tie : ℕ → ℕ → Bool} {found : ℕ → Bool} → ((x k : �
 closed_chain closed h (link t) = closed _ _ h t
 closed_chain closed h (more t c) = closed_chain closed (closed _ _ h t) c
 
--- the moves that were found and not seen are the ones to go on from
-module _ {tie : ℕ → ℕ → Bool} {first found unseen both : ℕ → Bool} (s : Searched tie first found unseen) (each : (k : ℕ) → both k ≡ (found k && unseen k)) where
-  -- one of them is seen, and what it is tied to is found
-  pub search_goes_on : {row found' unseen' : ℕ → Bool} (m : ℕ) → both m ≡ true → ((k : ℕ) → row k ≡ tie m k) → ((k : ℕ) → found' k ≡ (found k || row k))
+module _ {tie : ℕ → ℕ → Bool} {first found unseen : ℕ → Bool} (s : Searched tie first found unseen) where
+  -- one move of those found is seen, and what it is tied to is found
+  pub search_goes_on : {row found' unseen' : ℕ → Bool} (m : ℕ) → found m ≡ true → ((k : ℕ) → row k ≡ tie m k) → ((k : ℕ) → found' k ≡ (found k || row k))
       → ((k : ℕ) → unseen' k ≡ (not (eqb k m) && unseen k)) → Searched tie first found' unseen'
-  search_goes_on {row = row} {found' = found'} {unseen' = unseen'} m next ties more' less = record {
+  search_goes_on {row = row} {found' = found'} {unseen' = unseen'} m has ties more' less = record {
     led = λ k h. elim (or_cases (found k) (row k) (sym (more' k) ∙ h)) [
       | inl f ↦ s.led k f
-      | inr r ↦ led_on tie first m k (s.led m (and_parts (found m) (unseen m) (sym (each m) ∙ next)).0) (sym (ties k) ∙ r)
+      | inr r ↦ led_on tie first m k (s.led m has) (sym (ties k) ∙ r)
     ];
     begun = λ k h. old k (s.begun k h);
     seen = λ x k u t. elim (lacks unseen unseen' m x less u) [
@@ -55,6 +54,12 @@ module _ {tie : ℕ → ℕ → Bool} {first found unseen both : ℕ → Bool} (
     where
       old : (k : ℕ) → found k ≡ true → found' k ≡ true
       old k h = more' k ∙ or_left (found k) (row k) h
+
+-- the moves that were found and not seen are the ones to go on from
+module _ {tie : ℕ → ℕ → Bool} {first found unseen both : ℕ → Bool} (s : Searched tie first found unseen) (each : (k : ℕ) → both k ≡ (found k && unseen k)) where
+  -- one of them was found
+  pub found_both : (m : ℕ) → both m ≡ true → found m ≡ true
+  found_both m next = (and_parts (found m) (unseen m) (sym (each m) ∙ next)).0
 
   -- where there are none, what was found is all to which ties lead
   pub search_ends : (i : ℕ) → Within tie → ((k : ℕ) → first k ≡ tie i k) → ((k : ℕ) → both k ≡ false) → (k : ℕ) → found k ≡ leads tie i k

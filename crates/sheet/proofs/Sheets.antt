@@ -3,19 +3,20 @@ use Rattle.std.proofs.Common.{◌≡◌, ℕ, ◌≤◌, false, ◌⊎◌, None,
 use Rattle.std.proofs.lemmas.Bool.{cases_Bool, cases_lt, both_ways}
 use Rattle.std.proofs.lemmas.List.{get_or_past}
 use Rattle.moves.specs.Room.{room}
+use Rattle.sheet.specs.declared.entry.Entry.{Entry}
 use Rattle.sheet.specs.declared.sheet.Sheet.{Sheet}
 use Rattle.sheet.specs.Chains.{TellsChains}
 use Rattle.sheet.specs.Facts.{Sound}
 use Rattle.sheet.specs.Ledger.{on}
 use Rattle.sheet.specs.Meaning.{meaning}
-use Rattle.sheet.specs.Parts.{figures_in}
+use Rattle.sheet.specs.Parts.{vacant}
 use Rattle.sheet.proofs.Chains.{decides}
 use Rattle.sheet.proofs.Equations.{move_of}
 use Rattle.sheet.proofs.Keeps.{tie_within}
 
 -- no move past the room is on a sheet
 pub move_beyond : (s : Sheet) (n : ℕ) → room ≤ n → (meaning s).move n ≡ None
-move_beyond s n far = move_of s.entries n ∙ ap figures_in (get_or_past s.entries n None (omega (arith, s.places)))
+move_beyond s n far = move_of s.entries n ∙ ap (λ (x : Entry). x.figures) (get_or_past s.entries n vacant (omega (arith, s.places)))
 
 pub on_beyond : (s : Sheet) (n : ℕ) → room ≤ n → on (meaning s) n ≡ false
 on_beyond s n far = ap is_some (move_beyond s n far)

@@ -34,3 +34,10 @@ module _ (n : ℕ) (m : Move) (L : Ledger) where
 -- three figures are those of a move
 pub same_figures : (m : Move) (r l c : ℕ) → m.release ≡ r → m.length ≡ l → m.curve ≡ c → m ≡ record { release = r; length = l; curve = c }
 same_figures m r l c p q s = λ i. record { release = p i; length = q i; curve = s i }
+
+-- a move that is not on the sheet adds nothing to the span
+pub release_off : (L : Ledger) (k : ℕ) → on L k ≡ false → release_of L k ≡ 0
+release_off L k off = ap (λ (f : Move). f.release) (absent (L.move k) off)
+
+pub length_off : (L : Ledger) (k : ℕ) → on L k ≡ false → length_of L k ≡ 0
+length_off L k off = ap (λ (f : Move). f.length) (absent (L.move k) off)

@@ -1,32 +1,25 @@
--- What the entries of a sheet mean.
-use Rattle.std.specs.Prelude.{ℕ, Bool, false, List, Some, None, Option, slice_index_or}
-use Rattle.moves.specs.Members.{holds}
-use Rattle.std.specs.Option.{unwrap_or}
-use Rattle.sheet.specs.Ledger.{Ledger, nothing}
+-- What the parts of a sheet mean: the entries, and the set of moves beside them.
+use Rattle.std.specs.Prelude.{◌≡◌, ℕ, List, None, slice_index_or}
+use Rattle.moves.specs.Members.{holds, nobody}
+use Rattle.moves.specs.declared.set.MoveSet.{MoveSet}
+use Rattle.sheet.specs.Ledger.{Ledger, on}
 use Rattle.sheet.specs.declared.entry.Entry.{Entry}
-use Rattle.sheet.specs.declared.figures.Move.{Move}
 
--- the entry at a number, or None where there is none
-abbrev pub entry_at : List (Option Entry) → ℕ → Option Entry
-entry_at entries n = slice_index_or entries n None
+-- the entry of a number that no move has
+abbrev pub vacant : Entry
+vacant = record { figures = None; followers = nobody }
 
--- the figures of an entry
-abbrev pub figures_in : Option Entry → Option Move
-figures_in (Some e) = Some e.figures
-figures_in None = None
-
--- the figures at a place; all 0 where no move stands there
-abbrev pub figures_at : Option Entry → Move
-figures_at place = unwrap_or (figures_in place) nothing
-
--- whether a move waits for the one of an entry
-abbrev pub waits_in : Option Entry → ℕ → Bool
-waits_in (Some e) j = holds e.followers j
-waits_in None j = false
+-- the entry of a number
+abbrev pub entry_at : List Entry → ℕ → Entry
+entry_at entries n = slice_index_or entries n vacant
 
 -- the ledger that the entries stand for
-unfoldable pub ledger_of : List (Option Entry) → Ledger
+unfoldable pub ledger_of : List Entry → Ledger
 ledger_of entries = record {
-  move = λ n. figures_in (entry_at entries n);
-  tie = λ i j. waits_in (entry_at entries i) j;
+  move = λ n. (entry_at entries n).figures;
+  tie = λ i j. holds (entry_at entries i).followers j;
 }
+
+-- a set holds the moves of a ledger and no others
+abbrev pub HoldsMoves : MoveSet → Ledger → Type 0
+HoldsMoves present L = (k : ℕ) → holds present k ≡ on L k

@@ -11,18 +11,19 @@ ghost use Rattle.sheet.specs.Refusals.{both_named, number_of, refusal, feed};
 
 use super::Sheet;
 use crate::call::Call;
+use crate::entry::Entry;
 use crate::figures::Move;
 use crate::refusal::Refusal;
 use crate::tie::Tie;
-use moves::{MoveNumber, ROOM};
+use moves::{MoveNumber, MoveSet, ROOM};
 
 impl Sheet {
     // A sheet with no move and no tie.
-    #[tactic(auto, using(crate::proofs::Changes::unused_parts))]
+    #[tactic(auto, using(crate::proofs::Changes::unused_parts, crate::proofs::Changes::holds_none))]
     pub fn open() -> Sheet
         ensures { meaning result ≡ blank }
     {
-        Sheet::with_entries([None; ROOM])
+        Sheet::with_parts(MoveSet::empty(), [Entry::vacant(); ROOM])
     }
 
     // Puts a move on the sheet, with a number that the caller chooses.

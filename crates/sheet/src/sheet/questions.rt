@@ -6,44 +6,44 @@ ghost use Rattle.moves.specs.Number.{number};
 ghost use Rattle.moves.specs.Members.{holds};
 ghost use Rattle.sheet.specs.Ledger.{on, figures};
 ghost use Rattle.sheet.specs.Meaning.{meaning};
-ghost use Rattle.sheet.specs.Parts.{entry_at};
 
 use super::Sheet;
-use crate::entry::{Entry, figures_at};
+use crate::entry::Entry;
 use crate::figures::Move;
 use crate::tie::Tie;
 use moves::{MoveNumber, MoveSet};
 
 impl Sheet {
     // What the sheet has under that number.
-    pub(super) fn entry(&self, m: MoveNumber) -> Option<Entry>
-        ensures { result ≡ entry_at self.now.entries (number m) }
+    #[tactic(auto, using(crate::proofs::Equations::move_of, crate::proofs::Equations::tie_of))]
+    pub(super) fn entry(&self, m: MoveNumber) -> Entry
+        ensures figures { result.figures ≡ (meaning self.now).move (number m) }
+        ensures waits { (k : ℕ) → holds result.followers k ≡ (meaning self.now).tie (number m) k }
     {
         self.entries[m.index()]
     }
 
     // Whether a move of that number is on the sheet.
+    #[tactic(auto, using(crate::proofs::Sheets::on_beyond))]
     pub fn has(&self, n: u64) -> bool
         ensures { result ≡ on (meaning self.now) n }
     {
-        self.figures(n).is_some()
+        MoveNumber::new(n).is_some_and(|m| self.moves().contains(m))
     }
 
     // The figures of the move of that number, or nothing where it is not on the sheet.
-    #[tactic(auto, using(crate::proofs::Sheets::move_beyond), unfolding(crate::specs::Parts::ledger_of))]
+    #[tactic(auto, using(crate::proofs::Sheets::move_beyond))]
     pub fn figures(&self, n: u64) -> Option<Move>
         ensures { result ≡ (meaning self.now).move n }
     {
-        let entry = self.entry(MoveNumber::new(n)?)?;
-        Some(entry.figures)
+        self.entry(MoveNumber::new(n)?).figures
     }
 
     // The figures of that move; all 0 where it is not on the sheet.
-    #[tactic(auto, unfolding(crate::specs::Parts::ledger_of))]
     pub fn figures_of(&self, m: MoveNumber) -> Move
         ensures { result ≡ figures (meaning self.now) (number m) }
     {
-        figures_at(self.entry(m))
+        self.entry(m).figures_or_nothing()
     }
 
     // Whether there is a tie from the first to the second.
@@ -55,26 +55,17 @@ impl Sheet {
     }
 
     // The moves on the sheet.
-    #[tactic(auto, using(crate::proofs::Gathers::gathering, crate::proofs::Sheets::on_beyond, crate::proofs::Equations::on_of))]
     pub fn moves(&self) -> MoveSet
         ensures { (k : ℕ) → holds result k ≡ on (meaning self.now) k }
     {
-        let mut present = MoveSet::empty();
-        for m in MoveSet::all().iter() {
-            if self.entry(m).is_some() {
-                present = present.with(m);
-            }
-        }
-        present
+        self.present
     }
 
     // The moves that are tied to that one: they may not run before it is finished.
-    #[tactic(auto, using(crate::proofs::Equations::tie_of))]
     pub fn waiting_for(&self, m: MoveNumber) -> MoveSet
         ensures { (k : ℕ) → holds result k ≡ (meaning self.now).tie (number m) k }
     {
-        self.entry(m)
-            .map_or(MoveSet::empty(), |entry| entry.followers)
+        self.entry(m).followers
     }
 
     // How many moves are on the sheet.

@@ -7,31 +7,30 @@ ghost use Rattle.sheet.specs.Ledger.{release_of, length_of, span_with};
 ghost use Rattle.sheet.specs.Meaning.{meaning};
 
 use super::Sheet;
-use crate::entry::figures_at;
 use crate::figures::Move;
 use time::LAST_TICK;
 
 impl Sheet {
     // The greatest release of a move on the sheet, 0 where there is none.
-    #[tactic(auto, using(finite::proofs::Greatest::growing_greatest), unfolding(crate::specs::Parts::ledger_of))]
+    #[tactic(auto, using(finite::proofs::Walks::comparing, crate::proofs::Spans::release_off))]
     fn latest_release(&self) -> u32
         ensures { result ≡ greatest room (release_of (meaning self.now)) }
     {
         let mut latest: u32 = 0;
-        for place in &self.entries {
-            latest = latest.max(figures_at(*place).release);
+        for m in self.moves().iter() {
+            latest = latest.max(self.figures_of(m).release);
         }
         latest
     }
 
     // The lengths of all moves on the sheet together.
-    #[tactic(auto, using(finite::proofs::Sums::growing_sum), unfolding(crate::specs::Parts::ledger_of))]
+    #[tactic(auto, using(finite::proofs::Walks::summing, crate::proofs::Spans::length_off))]
     fn total_length(&self) -> u32
         ensures { result ≡ sum room (length_of (meaning self.now)) }
     {
-        let mut total = 0;
-        for place in &self.entries {
-            total += figures_at(*place).length;
+        let mut total: u32 = 0;
+        for m in self.moves().iter() {
+            total += self.figures_of(m).length;
         }
         total
     }

@@ -2,13 +2,13 @@
 use Rattle.moves.specs.Number.{number}
 use Rattle.sheet.specs.Meaning.{meaning}
 use Rattle.sheet.proofs.Keeps.{tie_within}
-use Rattle.sheet.proofs.Reach.{search_goes_on, search_ends}
+use Rattle.sheet.proofs.Reach.{found_both, search_goes_on, search_ends}
 use Rattle.sheet.proofs.Sheets.{sheet_sound}
 use Rattle.sheet.proofs.sheet.Sheet.led_to.Goals as goal
 
 pub loop-m-preserved : goal.loop-m-preserved
 loop-m-preserved c =
-    search_goes_on c.loop-m.invariant c.intersection.ensures.held (number c.in-Some.m) c.in-Some.ensures.held c.waiting_for.ensures c.union-found.ensures.held c.without-unseen.ensures.held
+    search_goes_on c.loop-m.invariant (number c.in-Some.m) (found_both c.loop-m.invariant c.intersection.ensures.held (number c.in-Some.m) c.in-Some.ensures.held) c.waiting_for.ensures c.union-found.ensures.held c.without-unseen.ensures.held
 
 pub returns : goal.returns
 returns c =

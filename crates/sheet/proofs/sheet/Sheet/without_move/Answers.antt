@@ -6,5 +6,5 @@ use Rattle.sheet.proofs.Keeps.{struck_sound}
 use Rattle.sheet.proofs.Sheets.{sheet_sound}
 use Rattle.sheet.proofs.sheet.Sheet.without_move.Goals as goal
 
-pub with_entries-requires : goal.with_entries-requires
-with_entries-requires c = sound_as c.entries_without.ensures (struck_sound (number c.args.m) (meaning c.args.self.now) (sheet_sound c.args.self.now))
+pub with_parts-requires-clause-sound : goal.with_parts-requires-clause-sound
+with_parts-requires-clause-sound c = sound_as c.entries_without.ensures (struck_sound (number c.args.m) (meaning c.args.self.now) (sheet_sound c.args.self.now))
