@@ -25,22 +25,20 @@ struct Sweep<'a> {
 
 // A turn of a sweep: the move that gets its time waits for none that is left.
 #[derive(Clone, Copy)]
-struct Turn<'a> {
-    sweep: Sweep<'a>,
+struct Turn<'s, 'a> {
+    sweep: &'s Sweep<'a>,
     m: MoveNumber,
-    ghost free: { Free (meaning sweep.sheet.now) (holds sweep.left) (number m) },
+    ghost free: { Free (meaning sweep.now.sheet.now) (holds sweep.now.left) (number m) },
 }
 
-// The ready time of every move of the sheet: at most a turn for each move, and each turn goes through the moves a few times.
+// The ready time of every move of the sheet: a turn for each of n moves, and each turn goes through the moves twice at most.
 #[tactic(auto, using(crate::proofs::Steps::sheet_law, moves::proofs::Sets::length_without))]
 pub fn ready_times(sheet: &Sheet) -> ReadyTable
     ensures times { Tabled (meaning sheet.now) result }
     ensures law { ReadyLaw (meaning sheet.now) }
 {
     let mut sweep = Sweep::new(sheet);
-    while let Some(turn) = sweep.next_turn() {
-        sweep = turn.done();
-    }
+    while sweep.advance().is_some() {}
     ReadyTable::new(sweep.times)
 }
 
@@ -57,12 +55,26 @@ impl<'a> Sweep<'a> {
         }
     }
 
+    // Makes the next turn and answers its move, which has its time now; answers nothing where no move is left. The time is written in its place: a
+    // copy of the table in each turn took about as long as the turn, on a small sheet.
+    fn advance(&mut self) -> Option<MoveNumber>
+        ensures sheet { self.new.sheet.now ≡ self.old.sheet.now }
+        ensures left { MatchOption result ((k : ℕ) → holds self.new.left k ≡ false) (λ m. (holds self.old.left (number m) ≡ true) × ((k : ℕ) → holds self.new.left k ≡ (not (k == number m) && holds self.old.left k))) }
+    {
+        let turn = self.next_turn()?;
+        let m = turn.m;
+        let time = turn.earliest();
+        self.times[m.index()] = time;
+        self.left = self.left.without(m);
+        Some(m)
+    }
+
     // The next turn. While a move is left there is one, since no chain of ties returns to its start.
-    fn next_turn(&self) -> Option<Turn<'a>>
-        ensures { MatchOption result ((k : ℕ) → holds self.now.left k ≡ false) (λ t. (t.sweep.sheet.now ≡ self.now.sheet.now) × (t.sweep.left ≡ self.now.left) × (holds self.now.left (number t.m) ≡ true)) }
+    fn next_turn(&self) -> Option<Turn<'_, 'a>>
+        ensures { MatchOption result ((k : ℕ) → holds self.now.left k ≡ false) (λ t. (t.sweep.now.sheet.now ≡ self.now.sheet.now) × (t.sweep.now.left ≡ self.now.left) × (holds self.now.left (number t.m) ≡ true)) }
     {
         let m = self.next_free()?;
-        Some(Turn { sweep: *self, m })
+        Some(Turn { sweep: self, m })
     }
 
     // A move that waits for none that is left.
@@ -86,25 +98,11 @@ impl<'a> Sweep<'a> {
     }
 }
 
-impl<'a> Turn<'a> {
-    // The sweep after this turn.
-    fn done(&self) -> Sweep<'a>
-        ensures sheet { result.sheet.now ≡ self.now.sweep.sheet.now }
-        ensures left { (k : ℕ) → holds result.left k ≡ (not (k == number self.now.m) && holds self.now.sweep.left k) }
-    {
-        let mut times = self.sweep.times;
-        times[self.m.index()] = self.earliest();
-        Sweep {
-            sheet: self.sweep.sheet,
-            left: self.sweep.left.without(self.m),
-            times,
-        }
-    }
-
+impl Turn<'_, '_> {
     // The ready time of the move.
     #[tactic(auto, using(crate::proofs::Steps::finishes_off, crate::proofs::Times::ready_equation, finite::proofs::Walks::comparing, sheet::proofs::Sheets::sheet_sound))]
     fn earliest(&self) -> u32
-        ensures { result ≡ ready (meaning self.now.sweep.sheet.now) (number self.now.m) }
+        ensures { result ≡ ready (meaning self.now.sweep.now.sheet.now) (number self.now.m) }
     {
         let sheet = self.sweep.sheet;
         let mut time = sheet.figures_of(self.m).release;
@@ -117,7 +115,7 @@ impl<'a> Turn<'a> {
     // When i could be finished, where the move waits for it; 0 where it does not.
     #[tactic(auto, using(crate::proofs::Steps::tied_in_time, sheet::proofs::Sheets::sheet_sound))]
     fn finish(&self, i: MoveNumber) -> u32
-        ensures { result ≡ (if (meaning self.now.sweep.sheet.now).tie (number i) (number self.now.m) then ready (meaning self.now.sweep.sheet.now) (number i) + length_of (meaning self.now.sweep.sheet.now) (number i) else 0) }
+        ensures { result ≡ (if (meaning self.now.sweep.now.sheet.now).tie (number i) (number self.now.m) then ready (meaning self.now.sweep.now.sheet.now) (number i) + length_of (meaning self.now.sweep.now.sheet.now) (number i) else 0) }
     {
         if self.sweep.sheet.waiting_for(i).contains(self.m) {
             self.sweep.times[i.index()] + self.sweep.sheet.figures_of(i).length

@@ -3,8 +3,8 @@ use Rattle.std.proofs.Common.{◌≡◌, length}
 use Rattle.moves.specs.Members.{members}
 use Rattle.rule.proofs.sweep.ready_times.Given as goal
 
-abbrev pub invariant-loop-turn : goal.invariant-loop-turn
-invariant-loop-turn l = l.sweep.sheet.now ≡ l.sheet
+abbrev pub invariant-loop : goal.invariant-loop
+invariant-loop l = l.sweep.sheet.now ≡ l.sheet
 
-abbrev pub decreases-loop-turn : goal.decreases-loop-turn
-decreases-loop-turn l = length (members l.sweep.left)
+abbrev pub decreases-loop : goal.decreases-loop
+decreases-loop l = length (members l.sweep.left)

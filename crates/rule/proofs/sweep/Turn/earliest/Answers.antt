@@ -9,6 +9,6 @@ use Rattle.rule.proofs.sweep.Turn.earliest.Goals as goal
 
 pub loop-i-preserved : goal.loop-i-preserved
 loop-i-preserved c =
-    let L = meaning c.args.self.now.sweep.sheet.now in
+    let L = meaning c.args.self.now.sweep.now.sheet.now in
     let taken = c.in-Some.ensures.steps in
     omega (arith, greatest_passes _ c.in-Some.i.below taken.held taken.rest (finishes L (number c.args.self.now.m)) (release_of L (number c.args.self.now.m)))

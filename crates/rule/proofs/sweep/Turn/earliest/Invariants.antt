@@ -11,4 +11,4 @@ use Rattle.rule.proofs.Steps.{finishes}
 use Rattle.rule.proofs.sweep.Turn.earliest.Given as goal
 
 abbrev pub invariant-loop-i : goal.invariant-loop-i
-invariant-loop-i l = l.time ≡ greatest_passed room (holds (left_of l.i-iterator)) (release_of (meaning l.self.sweep.sheet.now) (number l.self.m)) (finishes (meaning l.self.sweep.sheet.now) (number l.self.m))
+invariant-loop-i l = l.time ≡ greatest_passed room (holds (left_of l.i-iterator)) (release_of (meaning l.self.sweep.now.sheet.now) (number l.self.m)) (finishes (meaning l.self.sweep.now.sheet.now) (number l.self.m))
