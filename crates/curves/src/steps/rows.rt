@@ -27,7 +27,7 @@ pub(super) fn points_at(rows: &[Row], t: u64) -> u64
 {
     // by going through the rows: of `.rev().find(..)` the check does not see which row it is, and `partition_point` asks that the rows climb, which
     // the look-up does not need, and still leaves the last of those before it to be taken. The rows are copied: of borrowed ones that it knows, the
-    // compiler made a chain of jumps, which took more time than choosing without any
+    // compiler made a chain of jumps, and a reading took longer
     rows.iter().copied().fold(
         0,
         |points, row| if row.tick <= t { row.points } else { points },
